@@ -1,0 +1,115 @@
+// The kinds of a page record: its flag, its holders, its readers, and the limits. No kind stands for another: a bucket, a
+// visited number and a count are three types, and a holder carries only what its own phase needs.
+mod flags;
+mod phases;
+
+pub use flags::awaited;
+pub use flags::claimable;
+pub use flags::claimed;
+pub use flags::flag_number;
+pub use flags::is_available;
+pub use flags::is_unmapped;
+pub use flags::lock_flag;
+pub use flags::not_loading;
+pub use flags::open_to_readers;
+pub use flags::released;
+pub use flags::writeback_done;
+pub use phases::phase_number;
+
+// How many buckets there are.
+pub const BUCKETS: u8 = 4;
+
+// How many readers a record can list.
+pub const CAPACITY: usize = 64;
+
+// The highest count at a bucket.
+pub const CEILING: u8 = 31;
+
+// How many requests a run takes.
+pub const MOST_REQUESTS: usize = 2048;
+
+// How many bytes a request and an answer have.
+pub const RECORD: usize = 16;
+
+// Which reference count a holder uses, 0 to 3.
+pub struct Bucket(pub u8);
+
+// How many buckets an editor has looked at, 0 to 4.
+pub struct Visited(pub u8);
+
+// How many hold a bucket, 0 to 31.
+pub struct Count(pub u8);
+
+pub enum Flag {
+    Unmapped,
+    Loading,
+    LoadingExcLock,
+    Available,
+    Claimed,
+    Writeback,
+    WritebackAndClaimed,
+    WritebackAndPendingExcLock,
+    PendingExcLock,
+    ExcLockClean,
+    ExcLockDirty,
+}
+
+// The page's version where it is in, or nothing where it was handed out.
+pub enum Storage {
+    Out,
+    In(u64),
+}
+
+pub enum MaybeBucket {
+    None,
+    At(Bucket),
+}
+
+// How far a reader has come; one that has come through holds the version that it reads.
+pub enum Phase {
+    Pending,
+    Pending2,
+    Obtained(u64),
+}
+
+pub struct Reader {
+    pub phase: Phase,
+    pub bucket: Bucket,
+}
+
+// The editor.
+pub enum ExcState {
+    None,
+    Claim {
+        bucket: MaybeBucket,
+        value: u64,
+    },
+    PendingAwaitWriteback {
+        bucket: MaybeBucket,
+        value: u64,
+    },
+    Pending {
+        bucket: MaybeBucket,
+        visited_count: Visited,
+        clean: bool,
+        value: u64,
+    },
+    Obtained {
+        bucket: MaybeBucket,
+        clean: bool,
+    },
+}
+
+// The loader.
+pub enum LoadingState {
+    None,
+    Pending,
+    PendingCounted { bucket: MaybeBucket },
+    Obtained { bucket: MaybeBucket },
+}
+
+// The archive.
+pub enum WritebackState {
+    None,
+    Held { value: u64 },
+}
