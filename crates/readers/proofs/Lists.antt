@@ -1,0 +1,152 @@
+-- Laws of `tally`, `all` and `without`, over any element type: what each says after the list grows, loses or changes an entry.
+-- In order: `without` by recursion, at a seam, and its length; `all` of two lists and of parts, after each change, at an entry,
+-- and of two tests; `tally` of two lists, after each change, and what it says of the entries.
+-- `set` at a seam is `set-append-seam` of lib.Seq. Assumes nothing.
+use Prim.Native.Nat.{ℕ, zero, suc, _+_, _<_, _≤_}
+use mathlib.Core.Path.{_≡_, refl}
+use mathlib.Core.Bool.{Bool, true, false, cond, not, _&&_}
+use mathlib.Core.List.{List, [], _∷_, _++_}
+use native.Mathlib.Nat.{suc-add}
+use native.Mathlib.Omega.{arith}
+use lib.Dec.{T}
+use lib.ListN.{length, take, drop, getD, set, replicate, length-append, length-take, length-drop, take-append-drop}
+use lib.Seq.{take-append-seam, drop-append-add}
+use Rattle.readers.specs.Lists.{tally, all, without}
+use Rattle.readers.proofs.Tests.{both, halves}
+
+-- what one entry adds to a tally
+one-le : (t : Bool) → cond t 1 0 ≤ 1
+one-le true = omega arith
+one-le false = omega arith
+
+one-is : (t : Bool) → T t → _≡_ {A = ℕ} (cond t 1 0) 1
+one-is true h = refl
+one-is false h = absurd h
+
+none-is : (t : Bool) → _≡_ {A = ℕ} (cond t 1 0) 0 → T (not t)
+none-is true e = omega arith
+none-is false e = tt
+
+-- n entries add n, or nothing
+copies : (t : Bool) (n : ℕ) → cond t 1 0 + cond t n 0 ≡ cond t (suc n) 0
+copies true n = omega arith
+copies false n = refl
+
+no-copies : (t : Bool) → _≡_ {A = ℕ} 0 (cond t 0 0)
+no-copies true = refl
+no-copies false = refl
+
+module _ {A : Type 0} where
+  -- ---- without
+  pub without-zero : (x : A) (xs : List A) → without 0 (x ∷ xs) ≡ xs
+  without-zero x xs = refl
+
+  pub without-suc : (i : ℕ) (x : A) (xs : List A) → without (suc i) (x ∷ xs) ≡ x ∷ without i xs
+  without-suc i x xs = rw suc-add
+
+  -- the entry at the seam goes
+  pub without-split : (before : List A) (x : A) (after : List A) → without (length before) (before ++ x ∷ after) ≡ before ++ after
+  without-split before x after = rw (take-append-seam, drop-append-add before (x ∷ after) 1)
+
+  pub length-without : (l : List A) (i : ℕ) → i < length l → length (without i l) + 1 ≡ length l
+  length-without l i h = simp (length-append, length-take, length-drop) (omega arith)
+
+  -- ---- all
+  module _ (test : A → Bool) where
+    -- two lists, there and back
+    pub all-append : (xs ys : List A) → T (all test xs) → T (all test ys) → T (all test (xs ++ ys))
+    all-append [] ys s t = t
+    all-append (x ∷ xs) ys s t =
+        let h = halves (test x) (all test xs) s in
+        both (test x) (all test (xs ++ ys)) (h .0) (all-append xs ys (h .1) t)
+
+    pub all-parts : (xs ys : List A) → T (all test (xs ++ ys)) → T (all test xs) × T (all test ys)
+    all-parts [] ys t = (tt, t)
+    all-parts (x ∷ xs) ys t =
+        let h = halves (test x) (all test (xs ++ ys)) t in
+        let p = all-parts xs ys (h .1) in
+        (both (test x) (all test xs) (h .0) (p .0), p .1)
+
+    -- after each change
+    pub all-push : (l : List A) (x : A) → T (all test l) → T (test x) → T (all test (l ++ x ∷ []))
+    all-push l x s t = all-append l (x ∷ []) s (both (test x) true t tt)
+
+    pub all-put : (l : List A) (i : ℕ) (x : A) → T (all test l) → T (test x) → T (all test (set l i x))
+    all-put [] i x s t = tt
+    all-put (y ∷ l) zero x s t = both (test x) (all test l) t (halves (test y) (all test l) s .1)
+    all-put (y ∷ l) (suc i) x s t =
+        let h = halves (test y) (all test l) s in
+        both (test y) (all test (set l i x)) (h .0) (all-put l i x (h .1) t)
+
+    -- a part, and the list without one
+    pub all-take : (l : List A) (n : ℕ) → T (all test l) → T (all test (take n l))
+    all-take l n t = all-parts (take n l) (drop n l) (rw take-append-drop t) .0
+
+    pub all-drop : (l : List A) (n : ℕ) → T (all test l) → T (all test (drop n l))
+    all-drop l n t = all-parts (take n l) (drop n l) (rw take-append-drop t) .1
+
+    pub all-without : (l : List A) (i : ℕ) → T (all test l) → T (all test (without i l))
+    all-without l i t = all-append (take i l) (drop (i + 1) l) (all-take l i t) (all-drop l (i + 1) t)
+
+    -- each entry, and copies of one
+    pub all-at : (l : List A) (i : ℕ) (d : A) → T (all test l) → i < length l → T (test (getD l i d))
+    all-at [] i d t h = absurd (omega arith)
+    all-at (x ∷ l) zero d t h = halves (test x) (all test l) t .0
+    all-at (x ∷ l) (suc i) d t h = all-at l i d (halves (test x) (all test l) t .1) (omega arith)
+
+    pub all-replicate : (n : ℕ) (x : A) → T (test x) → T (all test (replicate n x))
+    all-replicate zero x t = tt
+    all-replicate (suc n) x t = both (test x) (all test (replicate n x)) t (all-replicate n x t)
+
+  -- two tests: one that follows from the other, and both at once
+  module _ (f g : A → Bool) where
+    pub all-mono : (l : List A) → ((x : A) → T (f x) → T (g x)) → T (all f l) → T (all g l)
+    all-mono [] m t = tt
+    all-mono (x ∷ l) m t =
+        let h = halves (f x) (all f l) t in
+        both (g x) (all g l) (m x (h .0)) (all-mono l m (h .1))
+
+    pub all-both : (l : List A) → T (all f l) → T (all g l) → T (all (λ x. f x && g x) l)
+    all-both [] s t = tt
+    all-both (x ∷ l) s t =
+        let h = halves (f x) (all f l) s in
+        let k = halves (g x) (all g l) t in
+        both (f x && g x) (all (λ x. f x && g x) l) (both (f x) (g x) (h .0) (k .0)) (all-both l (h .1) (k .1))
+
+  -- ---- tally
+  module _ (test : A → Bool) where
+    pub tally-append : (xs ys : List A) → tally test (xs ++ ys) ≡ tally test xs + tally test ys
+    tally-append [] ys = omega arith
+    tally-append (x ∷ xs) ys = omega (arith, tally-append xs ys)
+
+    pub tally-push : (l : List A) (x : A) → tally test (l ++ x ∷ []) ≡ tally test l + cond (test x) 1 0
+    tally-push l x = omega (arith, tally-append l (x ∷ []))
+
+    -- a change takes away what the old entry added and adds what the new one does
+    pub tally-put : (l : List A) (i : ℕ) (x d : A) → i < length l
+        → tally test (set l i x) + cond (test (getD l i d)) 1 0 ≡ tally test l + cond (test x) 1 0
+    tally-put [] i x d h = absurd (omega arith)
+    tally-put (y ∷ l) zero x d h = omega arith
+    tally-put (y ∷ l) (suc i) x d h = omega (arith, tally-put l i x d (omega arith))
+
+    pub tally-without : (l : List A) (i : ℕ) (d : A) → i < length l → tally test (without i l) + cond (test (getD l i d)) 1 0 ≡ tally test l
+    tally-without [] i d h = absurd (omega arith)
+    tally-without (x ∷ l) zero d h = omega arith
+    tally-without (x ∷ l) (suc i) d h = rw suc-add (omega (arith, tally-without l i d (omega arith)))
+
+    -- from the tally to the entries, and back
+    pub tally-le : (l : List A) → tally test l ≤ length l
+    tally-le [] = omega arith
+    tally-le (x ∷ l) = omega (arith, tally-le l, one-le (test x))
+
+    pub tally-none : (l : List A) → tally test l ≡ 0 → T (all (λ x. not (test x)) l)
+    tally-none [] e = tt
+    tally-none (x ∷ l) e =
+        both (not (test x)) (all (λ x. not (test x)) l) (none-is (test x) (omega arith)) (tally-none l (omega arith))
+
+    pub tally-positive : (l : List A) (i : ℕ) (d : A) → i < length l → T (test (getD l i d)) → 1 ≤ tally test l
+    tally-positive l i d h t = omega (arith, tally-without l i d h, one-is (test (getD l i d)) t)
+
+    pub tally-replicate : (n : ℕ) (x : A) → tally test (replicate n x) ≡ cond (test x) n 0
+    tally-replicate zero x = no-copies (test x)
+    tally-replicate (suc n) x = rw (tally-replicate n x) (copies (test x) n)
