@@ -1,0 +1,178 @@
+-- What a sound record says, beyond its rules one by one: the facts that the steps and the demands use. First of one reader,
+-- by rule 7; then of flag, holders and storage, read off the twelve shapes (`known`); then of the list and the counts, by
+-- rules 5 and 7. Assumes nothing.
+use Prim.Native.Nat.{ℕ, _≤_, _<_}
+use mathlib.Core.Path.{_≡_, subst}
+use mathlib.Core.Logic.{_↔_, _⊎_, inl, inr}
+use mathlib.Core.Bool.{Bool, true, false, not, _&&_, _||_}
+use mathlib.Core.List.{List}
+use native.Mathlib.Omega.{arith}
+use lib.Dec.{T, eqb, ltb, eqb→eq, eqb-refl, leb→le, ltb→lt}
+use lib.ListN.{length, getD}
+use Rattle.kinds.specs.Limits.{buckets}
+use Rattle.kinds.specs.Flags.{isAvailable, claimable, isUnmapped, openToReaders, notLoading}
+use Rattle.kinds.specs.Numbers.{phaseNumber}
+use Rattle.kinds.specs.declared.Count.{Count}
+use Rattle.kinds.specs.declared.Flag.{Flag}
+use Rattle.kinds.specs.declared.Storage.{Storage}
+use Rattle.kinds.specs.declared.Phase.{Phase}
+use Rattle.kinds.specs.declared.Reader.{Reader}
+use Rattle.kinds.specs.declared.ExcState.{ExcState}
+use Rattle.kinds.specs.declared.LoadingState.{LoadingState}
+use Rattle.kinds.specs.declared.WritebackState.{WritebackState}
+use Rattle.readers.specs.Lists.{all}
+use Rattle.readers.specs.Listed.{isAt, countAt, blankReader}
+use Rattle.readers.proofs.Tests.{both, halves, and-iff}
+use Rattle.readers.proofs.Lists.{all-mono, all-at, tally-positive}
+use Rattle.readers.proofs.First.{First}
+use Rattle.page_record.specs.declared.Head.{Head}
+use Rattle.page_record.specs.Holders.{holds, valueOf, isClaim, isAwait, isPending, isEditing, excBucket, excVisited, excValue, noLoad, isBefore, noWriteback}
+use Rattle.page_record.specs.Pages.{numberAt}
+use Rattle.page_record.specs.References.{refAt}
+use Rattle.page_record.specs.Rules.{sharedStateValid, phaseValid, excLets, mayPass, mayHold}
+use Rattle.page_record.specs.Facts.{Sound}
+use Rattle.page_record.specs.Shapes.{Shape, unmapped, waiting, counted, loaded, available, claimed, writeback, writebackClaimed, writebackAwait, await, pending, editing, headAt, valid}
+use Rattle.page_record.proofs.Shapes.{no-load, by-shape}
+
+-- ---- one reader
+-- a reader past the first check may stand at b, and one that has come through may hold v there
+abbrev pub passing : Head → ℕ → Bool
+passing h b = mayPass (h .flag) (h .«exc_state») (h .«loading_state») b
+
+abbrev pub holding : Head → ℕ → ℕ → Bool
+holding h b v = mayHold (h .flag) (h .«exc_state») (h .«loading_state») (h .storage) b v
+
+not-before : (l : LoadingState) → T (noLoad l) → T (not (isBefore l))
+not-before l t = rw (no-load l t) tt
+
+-- it may hold v just if storage does, nobody loads, and it may be past the first check
+pub hold-iff : (h : Head) (b v : ℕ) → T (holding h b v) ↔ T (holds (h .storage) v) × T (noLoad (h .«loading_state»)) × T (passing h b)
+hold-iff h b v = (
+  λ t. let u = simp and-iff at t in (u .0 .0 .0, u .0 .1, simp and-iff ((u .0 .0 .1, not-before (h .«loading_state») (u .0 .1)), u .1)),
+  λ t. let u = simp and-iff at (t .2) in simp and-iff (((t .0, u .0 .0), t .1), u .1),
+)
+
+-- a reader that keeps rule 7: its bucket, and what its phase asks
+module _ (h : Head) (r : Reader) (t : T (sharedStateValid h r)) where
+  pub valid-bucket : r .bucket .0 < buckets
+  valid-bucket =
+      ltb→lt (r .bucket .0) buckets
+      (halves (ltb (r .bucket .0) buckets) (phaseValid (r .phase) (passing h (r .bucket .0)) (holding h (r .bucket .0))) t .0)
+
+  pub valid-phase : T (phaseValid (r .phase) (passing h (r .bucket .0)) (holding h (r .bucket .0)))
+  valid-phase = halves (ltb (r .bucket .0) buckets) (phaseValid (r .phase) (passing h (r .bucket .0)) (holding h (r .bucket .0))) t .1
+
+-- ---- flag, holders and storage
+-- the page is in storage, and this is its value
+abbrev pub Stored : Storage → Type 0
+Stored s = s ≡ Storage.In (valueOf s)
+
+pub stored-holds : (s : Storage) → Stored s → T (holds s (valueOf s))
+stored-holds s e = rw e (eqb-refl (valueOf s))
+
+pub record Known (h : Head) : Type 0 where
+  -- a writeback: the flag is one of the three that step 2 names (rule 6)
+  pub writes : T (not (noWriteback (h .«writeback_state»)))
+      → (h .flag ≡ Flag.Writeback) ⊎ (h .flag ≡ Flag.WritebackAndClaimed) ⊎ (h .flag ≡ Flag.WritebackAndPendingExcLock)
+  -- Claim: one of the two that step 5 names; PendingAwaitWriteback: one of the two that it leaves (rules 2 and 6)
+  pub claims : T (isClaim (h .«exc_state»)) → (h .flag ≡ Flag.Claimed) ⊎ (h .flag ≡ Flag.WritebackAndClaimed)
+  pub awaits : T (isAwait (h .«exc_state»)) → (h .flag ≡ Flag.PendingExcLock) ⊎ (h .flag ≡ Flag.WritebackAndPendingExcLock)
+  -- Unmapped; Available; Available or Writeback: the page is in (rules 1 and 6)
+  pub unmapped-in : T (isUnmapped (h .flag)) → Stored (h .storage)
+  pub available-in : T (isAvailable (h .flag)) → Stored (h .storage)
+  pub claimable-in : T (claimable (h .flag)) → Stored (h .storage)
+  -- the flags that step 23 names: a reader may be past the first check (rules 2 and 6)
+  pub open-passing : (b : ℕ) → T (openToReaders (h .flag)) → T (passing h b)
+  -- a reader may be past it, and the flag is not Loading: the page is in, and nobody loads (rules 1, 2 and 6)
+  pub passing-in : (b : ℕ) → T (notLoading (h .flag) && passing h b) → Stored (h .storage)
+  pub passing-idle : (b : ℕ) → T (notLoading (h .flag) && passing h b) → T (noLoad (h .«loading_state»))
+  -- an editor that is Pending: the page is in, with the editor's value (rule 2)
+  pub pending-in : T (isPending (h .«exc_state»)) → h .storage ≡ Storage.In (excValue (h .«exc_state»))
+  -- an editor that is Pending or Obtained: no writeback (rule 2)
+  pub locked-alone : T (isPending (h .«exc_state») || isEditing (h .«exc_state»)) → h .«writeback_state» ≡ WritebackState.None
+
+never : {A : Type 0} → ⊥ → A
+never t = absurd t
+
+-- at a shape each fact computes to what its flag, holders and storage are, or its premise is absurd
+known-at : (z : Shape) (cs : List Count) → T (valid z) → Known (headAt z cs)
+known-at (unmapped v) cs t = search (inl, inr, never)
+known-at waiting cs t = search (inl, inr, never)
+known-at (counted b) cs t = search (inl, inr, never)
+known-at (loaded m) cs t = search (inl, inr, never)
+known-at (available v) cs t = search (inl, inr, never)
+known-at (claimed m v) cs t = search (inl, inr, never)
+known-at (writeback v) cs t = search (inl, inr, never)
+known-at (writebackClaimed m v) cs t = search (inl, inr, never)
+known-at (writebackAwait m v) cs t = search (inl, inr, never)
+known-at (await m v) cs t = search (inl, inr, never)
+known-at (pending m n true v) cs t = search (inl, inr, never)
+known-at (pending m n false v) cs t = search (inl, inr, never)
+known-at (editing m true) cs t = search (inl, inr, never)
+known-at (editing m false) cs t = search (inl, inr, never)
+
+pub known : {h : Head} {l : List Reader} → Sound h l → Known h
+known {h} s = by-shape (λ (x : Head). Known x) known-at h (s .head)
+
+-- ---- an editor that has closed every bucket
+-- it has visited all of them, or has the page out
+abbrev pub isClosed : ExcState → Bool
+isClosed e = isEditing e || isPending e && eqb (excVisited e .0) buckets
+
+closed-lets : (e : ExcState) (b : ℕ) → T (isClosed e) → b < buckets → T (excLets e b) → ⊥
+closed-lets ExcState.None b t k u = t
+closed-lets (ExcState.Claim m v) b t k u = t
+closed-lets (ExcState.PendingAwaitWriteback m v) b t k u = t
+closed-lets (ExcState.Pending m n c v) b t k u = omega (arith, eqb→eq (n .0) buckets t, leb→le (n .0) b u)
+closed-lets (ExcState.Obtained m c) b t k u = u
+
+-- beside it nobody may be past the first check
+pub closed-passing : (h : Head) (b : ℕ) → T (isClosed (h .«exc_state»)) → b < buckets → T (passing h b) → ⊥
+closed-passing h b t k u = closed-lets (h .«exc_state») b t k ((simp and-iff at u) .0 .0)
+
+-- a reader that is not past the first check
+abbrev pub readerPending : Reader → Bool
+readerPending r = eqb (phaseNumber (r .phase)) 1
+
+shut-pending : (p : Phase) (pass : Bool) (hold : ℕ → Bool) → (T pass → ⊥) → ((v : ℕ) → T (hold v) → T pass) → T (phaseValid p pass hold)
+    → T (eqb (phaseNumber p) 1)
+shut-pending Phase.Pending pass hold shut past t = tt
+shut-pending Phase.Pending2 pass hold shut past t = absurd (shut t)
+shut-pending (Phase.Obtained v) pass hold shut past t = absurd (shut (past v t))
+
+-- ---- the list and the counts
+module _ {h : Head} {l : List Reader} (s : Sound h l) where
+  -- a listed reader keeps rule 7
+  pub listed-valid : (i : ℕ) → i < length l → T (sharedStateValid h (getD l i blankReader))
+  listed-valid i k = all-at (sharedStateValid h) l i blankReader (s .readers) k
+
+  pub found-valid : (x : Reader) (i : ℕ) → First l x i → T (sharedStateValid h x)
+  found-valid x i f = subst (λ (r : Reader). T (sharedStateValid h r)) (f .equal) (listed-valid i (f .inside))
+
+  -- a listed reader is counted at its bucket (rule 5)
+  pub listed-counted : (i : ℕ) → i < length l → 1 ≤ numberAt (h .«ref_counts») ((getD l i blankReader) .bucket .0)
+  listed-counted i k =
+      let r = getD l i blankReader in
+      let b = r .bucket .0 in
+      omega (arith, s .counts b (valid-bucket h r (listed-valid i k)), tally-positive (isAt b) l i blankReader k (eqb-refl b))
+
+  -- a listed Pending2 reader, and the flag is not Loading: the page is in (rules 1, 2, 6 and 7)
+  pub pending2-in : (i : ℕ) → i < length l → (getD l i blankReader) .phase ≡ Phase.Pending2 → T (notLoading (h .flag)) → Stored (h .storage)
+  pending2-in i k e t =
+      let r = getD l i blankReader in
+      let b = r .bucket .0 in
+      known s .passing-in b (both (notLoading (h .flag)) (passing h b) t (rw e at (valid-phase h r (listed-valid i k))))
+
+  -- an editor that has closed every bucket: no reader is Pending2 or Obtained (rules 7 and 8)
+  pub closed-pending : T (isClosed (h .«exc_state»)) → T (all readerPending l)
+  closed-pending c =
+      all-mono (sharedStateValid h) readerPending l
+      (λ r t.
+      let b = r .bucket .0 in
+      shut-pending (r .phase) (passing h b) (holding h b) (closed-passing h b c (valid-bucket h r t)) (λ v u. hold-iff h b v .0 u .2)
+      (valid-phase h r t))
+      (s .readers)
+
+  -- step 7 finds what it expects: no reader stands at that bucket (rule 5)
+  pub none-at : (b : ℕ) → b < buckets → numberAt (h .«ref_counts») b ≡ refAt (excBucket (h .«exc_state»)) b → countAt b l ≡ 0
+  none-at b k e = omega (arith, s .counts b k)

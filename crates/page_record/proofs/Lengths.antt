@@ -1,0 +1,49 @@
+-- What the lengths of the record's arrays give: a test of all four entries is four tests (`all-four`), no count of listed
+-- readers is above the capacity (`tally-live`), and so the references at a bucket are few (`refs-le`). Assumes nothing.
+use Prim.Native.Nat.{ℕ, _+_, _≤_}
+use mathlib.Core.Path.{_≡_}
+use mathlib.Core.Bool.{Bool, true, false, cond, _&&_, and-assoc, and-true}
+use mathlib.Core.List.{List, [], _∷_}
+use native.Mathlib.Omega.{arith}
+use lib.Dec.{eqb}
+use lib.ListN.{length, getD, length-take}
+use Rattle.kinds.specs.Limits.{buckets, capacity}
+use Rattle.kinds.specs.declared.MaybeBucket.{MaybeBucket}
+use Rattle.kinds.specs.declared.Reader.{Reader}
+use Rattle.kinds.specs.declared.ExcState.{ExcState}
+use Rattle.kinds.specs.declared.LoadingState.{LoadingState}
+use Rattle.readers.specs.declared.Readers.{Readers}
+use Rattle.readers.specs.Lists.{tally, all}
+use Rattle.readers.specs.Listed.{live, isAt}
+use Rattle.readers.proofs.Lists.{tally-le}
+use Rattle.page_record.specs.Holders.{excBucket, loadingBucket}
+use Rattle.page_record.specs.References.{refAt, countAllRefs}
+
+-- ---- an array of four
+pub all-four : {A : Type 0} (test : A → Bool) (d : A) (l : List A) → length l ≡ buckets
+    → all test l ≡ (test (getD l 0 d) && test (getD l 1 d) && test (getD l 2 d) && test (getD l 3 d))
+all-four test d [] e = absurd (omega arith)
+all-four test d (w ∷ []) e = absurd (omega arith)
+all-four test d (w ∷ x ∷ []) e = absurd (omega arith)
+all-four test d (w ∷ x ∷ y ∷ []) e = absurd (omega arith)
+all-four test d (w ∷ x ∷ y ∷ z ∷ []) e = simp (and-assoc, and-true)
+all-four test d (w ∷ x ∷ y ∷ z ∷ v ∷ l) e = absurd (omega arith)
+
+-- ---- the references at a bucket
+one-le : (t : Bool) → cond t 1 0 ≤ 1
+one-le true = omega arith
+one-le false = omega arith
+
+-- a holder adds at most one
+ref-le : (m : MaybeBucket) (b : ℕ) → refAt m b ≤ 1
+ref-le MaybeBucket.None b = omega arith
+ref-le (MaybeBucket.At bucket) b = one-le (eqb (bucket .0) b)
+
+module _ (rs : Readers) (full : length (rs .items) ≡ capacity) where
+  pub tally-live : (test : Reader → Bool) → tally test (live rs) ≤ capacity
+  tally-live test =
+      let h : length (live rs) ≤ capacity = simp length-take (omega arith) in
+      omega (arith, tally-le test (live rs))
+
+  pub refs-le : (e : ExcState) (l : LoadingState) (b : ℕ) → countAllRefs (live rs) e l b ≤ capacity + 2
+  refs-le e l b = omega (arith, tally-live (isAt b), ref-le (excBucket e) b, ref-le (loadingBucket l) b)

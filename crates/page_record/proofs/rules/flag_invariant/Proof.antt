@@ -1,0 +1,57 @@
+-- `page_record::rules::flag_invariant` meets its contract: in each arm, by the flag that it matched, and each clause by its
+-- call. Assumes nothing.
+use borrow.Author.Needs.{needs}
+use Rattle.page_record.proofs.rules.flag_invariant.Statement.{statement}
+use Rattle.page_record.proofs.rules.flag_invariant.Tie as tie
+
+pub flag-invariant-spec : {M : Type 1} → statement M
+flag-invariant-spec =
+    tie.close
+    (tie.spec
+    (λ c. search needs)
+    (λ c κs. tt)
+    (λ c κs. tt)
+    (λ c κs. tt)
+    (λ c. search needs)
+    (λ c κs. tt)
+    (λ c κs. tt)
+    (λ c. search needs)
+    (λ c κs. tt)
+    (λ c κs. tt)
+    (λ c. search needs)
+    (λ c κs. tt)
+    (λ c κs. tt)
+    (λ c κs. tt)
+    (λ c. search needs)
+    (λ c κs. tt)
+    (λ c κs. tt)
+    (λ c. search needs)
+    (λ c κs. tt)
+    (λ c κs. tt)
+    (λ c κs. tt)
+    (λ c. search needs)
+    (λ c κs. tt)
+    (λ c κs. tt)
+    (λ c. search needs)
+    (λ c κs. tt)
+    (λ c κs. tt)
+    (λ c. search needs)
+    (λ c κs. tt)
+    (λ c κs. tt)
+    (λ c. search needs)
+    (λ c κs. tt)
+    (λ c κs. tt)
+    (λ c. search needs)
+    (λ c κs. tt)
+    (λ c κs. tt)
+    (λ c. simp (c .no-writeback .ensures, c .before .no-load .ensures, c .before .before .no-exc .ensures, c .before .before .before .enum-told .given .1))
+    (λ c. simp (c .no-writeback2 .ensures, c .before .is-loaded .ensures, c .before .before .enum-told2 .given .1))
+    (λ c. simp (c .no-writeback3 .ensures, c .before .is-before .ensures, c .before .before .enum-told3 .given .1))
+    (λ c. simp (c .no-writeback4 .ensures, c .before .no-load2 .ensures, c .before .before .no-exc2 .ensures, c .before .before .before .enum-told4 .given .1))
+    (λ c. simp (c .no-writeback5 .ensures, c .before .is-claim .ensures, c .before .before .enum-told5 .given .1))
+    (λ c. simp (c .no-writeback6 .ensures, c .before .no-load3 .ensures, c .before .before .no-exc3 .ensures, c .before .before .before .enum-told6 .given .1))
+    (λ c. simp (c .no-writeback7 .ensures, c .before .is-claim2 .ensures, c .before .before .enum-told7 .given .1))
+    (λ c. simp (c .no-writeback8 .ensures, c .before .is-await .ensures, c .before .before .enum-told8 .given .1))
+    (λ c. simp (c .no-writeback9 .ensures, c .before .is-await2 .ensures, c .before .before .enum-told9 .given .1))
+    (λ c. simp (c .no-writeback10 .ensures, c .before .is-locked .ensures, c .before .before .enum-told10 .given .1))
+    (λ c. simp (c .no-writeback11 .ensures, c .before .is-locked2 .ensures, c .before .before .enum-told11 .given .1)))
