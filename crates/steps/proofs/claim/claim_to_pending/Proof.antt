@@ -1,0 +1,17 @@
+-- `steps::claim::claim_to_pending` meets its contract: each return, by what its tests, its matches and its calls showed. Assumes nothing.
+use borrow.Author.Needs.{needs}
+use Rattle.steps.proofs.Holders.{not-claim}
+use Rattle.steps.proofs.claim.claim_to_pending.Statement.{statement}
+use Rattle.steps.proofs.claim.claim_to_pending.Tie as tie
+
+pub claim-to-pending-spec : {M : Type 1} → statement M
+claim-to-pending-spec =
+    tie.close
+    (tie.spec
+    (λ c. search needs)
+    (λ c κs. tt)
+    (λ c. simp (c .refuse .ensures, not-claim (c .before .before .args .h .«exc_state») (c .before .match .keys2)))
+    (λ c κs. tt)
+    (λ c κs. tt)
+    (λ c κs. tt)
+    (λ c. simp (c .accept .ensures, c .before .with-exc .ensures, c .before .before .awaited .ensures, c .before .before .before .before .exc .given .1)))

@@ -1,0 +1,16 @@
+-- `steps::loading::obtain_loading_no_refcount` meets its contract: each return, by what its tests, its matches and its calls showed. Assumes nothing.
+use borrow.Author.Needs.{needs}
+use Rattle.steps.proofs.Holders.{not-waiting}
+use Rattle.steps.proofs.loading.obtain_loading_no_refcount.Statement.{statement}
+use Rattle.steps.proofs.loading.obtain_loading_no_refcount.Tie as tie
+
+pub obtain-loading-no-refcount-spec : {M : Type 1} → statement M
+obtain-loading-no-refcount-spec =
+    tie.close
+    (tie.spec
+    (λ c. search needs)
+    (λ c κs. tt)
+    (λ c. simp (c .refuse .ensures, not-waiting (c .before .before .args .h .«loading_state») (c .before .match .keys2)))
+    (λ c κs. tt)
+    (λ c κs. tt)
+    (λ c. simp (c .accept .ensures, c .before .with-loading .ensures, c .before .before .enum-told .given .1)))

@@ -1,0 +1,15 @@
+-- `steps::setters::ref_at` meets its contract: each return, by what its tests, its matches and its calls showed. Assumes nothing.
+use borrow.Author.Needs.{needs}
+use borrow.Author.Tests.{eq-eqb, ne-eqb}
+use Rattle.steps.proofs.setters.ref_at.Statement.{statement}
+use Rattle.steps.proofs.setters.ref_at.Tie as tie
+
+pub ref-at-spec : {M : Type 1} → statement M
+ref-at-spec =
+    tie.close
+    (tie.spec
+    (λ c. search needs)
+    (λ c. search needs)
+    (λ c. search needs)
+    (λ c. simp (eq-eqb _ _ (c .if1 .taken), c .before .before .before .before .own .given .1))
+    (λ c. simp (ne-eqb _ _ (c .if1 .left), c .before .before .before .before .own .given .1)))

@@ -1,0 +1,22 @@
+-- `steps::setters::with_number` meets its contract: a number that is no bucket is past the four counts. Assumes nothing.
+use Prim.Native.Nat.{_≤_}
+use mathlib.Core.Path.{_≡_}
+use native.Mathlib.Omega.{arith}
+use borrow.Author.Needs.{needs}
+use lib.ListN.{length, length-map}
+use lib.Seq.{set-out}
+use Rattle.steps.proofs.setters.with_number.Statement.{statement}
+use Rattle.steps.proofs.setters.with_number.Tie as tie
+
+pub with-number-spec : {M : Type 1} → statement M
+with-number-spec =
+    tie.close
+    (tie.spec
+    (λ c. search needs)
+    (λ c. search needs)
+    (λ c. search needs)
+    (λ c.
+    let args = c .before .args in
+    let four : length (args .h .«ref_counts») ≡ 4 = simp length-map at (c .before .good .0 .1 .1 .1 .1 .0 .1 .0 .1) in
+    let past : length (args .h .«ref_counts») ≤ args .bucket .0 = omega arith in
+    rw (set-out (args .h .«ref_counts») (args .bucket .0) _ past)))

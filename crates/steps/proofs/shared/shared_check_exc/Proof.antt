@@ -1,0 +1,20 @@
+-- `steps::shared::shared_check_exc` meets its contract: each return, by what its tests, its matches and its calls showed. Assumes nothing.
+use mathlib.Core.Path.{sym, _∙_}
+use borrow.Author.Needs.{needs}
+use borrow.Author.Tests.{not-false, not-true}
+use Rattle.steps.proofs.shared.shared_check_exc.Statement.{statement}
+use Rattle.steps.proofs.shared.shared_check_exc.Tie as tie
+
+pub shared-check-exc-spec : {M : Type 1} → statement M
+shared-check-exc-spec =
+    tie.close
+    (tie.spec
+    (λ c κs. tt)
+    (λ c κs. tt)
+    (λ c. simp (c .refuse .ensures, sym (c .before .before .open-to-readers .ensures) ∙ not-true _ (c .before .if1 .taken)))
+    (λ c. search needs)
+    (λ c. search needs)
+    (λ c κs. tt)
+    (λ c. simp (c .refuse2 .ensures, c .before .enum-told .given .1, sym (c .before .before .before .before .open-to-readers .ensures) ∙ not-false _ (c .before .before .before .if1 .left)))
+    (λ c κs. tt)
+    (λ c. simp (c .accept .ensures, c .before .before .found .given .1, sym (c .before .before .before .before .before .open-to-readers .ensures) ∙ not-false _ (c .before .before .before .before .if1 .left))))

@@ -1,0 +1,21 @@
+-- `steps::shared::shared_check_loading` meets its contract: each return, by what its tests, its matches and its calls showed. Assumes nothing.
+use mathlib.Core.Path.{sym, _∙_}
+use borrow.Author.Needs.{needs}
+use borrow.Author.Tests.{not-false, not-true}
+use Rattle.steps.proofs.shared.shared_check_loading.Statement.{statement}
+use Rattle.steps.proofs.shared.shared_check_loading.Tie as tie
+
+pub shared-check-loading-spec : {M : Type 1} → statement M
+shared-check-loading-spec =
+    tie.close
+    (tie.spec
+    (λ c κs. tt)
+    (λ c κs. tt)
+    (λ c. simp (c .refuse .ensures, sym (c .before .before .not-loading .ensures) ∙ not-true _ (c .before .if1 .taken)))
+    (λ c. search needs)
+    (λ c. search needs)
+    (λ c κs. tt)
+    (λ c. simp (c .refuse2 .ensures, c .before .enum-told .given .1, sym (c .before .before .before .before .not-loading .ensures) ∙ not-false _ (c .before .before .before .if1 .left)))
+    (λ c κs. tt)
+    (λ c κs. tt)
+    (λ c. simp (c .accept .ensures, c .before .value-of .ensures, c .before .before .before .found .given .1, sym (c .before .before .before .before .before .before .not-loading .ensures) ∙ not-false _ (c .before .before .before .before .before .if1 .left))))

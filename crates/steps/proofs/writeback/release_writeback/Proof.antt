@@ -1,0 +1,17 @@
+-- `steps::writeback::release_writeback` meets its contract: each return, by what its tests, its matches and its calls showed. Assumes nothing.
+use borrow.Author.Needs.{needs}
+use Rattle.steps.proofs.writeback.release_writeback.Statement.{statement}
+use Rattle.steps.proofs.writeback.release_writeback.Tie as tie
+
+pub release-writeback-spec : {M : Type 1} → statement M
+release-writeback-spec =
+    tie.close
+    (tie.spec
+    (λ c. search needs)
+    (λ c. search needs)
+    (λ c κs. tt)
+    (λ c. simp (c .refuse .ensures, c .before .enum-told2 .given .1))
+    (λ c κs. tt)
+    (λ c κs. tt)
+    (λ c κs. tt)
+    (λ c. simp (c .accept .ensures, c .before .with-writeback .ensures, c .before .before .released .ensures, c .before .before .before .enum-told .given .1)))

@@ -1,0 +1,38 @@
+-- Document 01's number for each answer, and the value that it carries.
+use Prim.Native.Nat.{ℕ}
+use mathlib.Core.Bool.{Bool, true, false}
+use Rattle.steps.specs.declared.Refusal.{Refusal}
+use Rattle.steps.specs.declared.Answer.{Answer}
+
+abbrev pub refusalNumber : Refusal → ℕ
+refusalNumber Refusal.Unsound = 1
+refusalNumber Refusal.UnknownStep = 2
+refusalNumber Refusal.BadField = 3
+refusalNumber Refusal.BadBucket = 4
+refusalNumber Refusal.WrongFlag = 5
+refusalNumber Refusal.NoHolder = 6
+refusalNumber Refusal.WrongBucket = 7
+refusalNumber Refusal.WrongVisited = 8
+refusalNumber Refusal.OtherCount = 9
+refusalNumber Refusal.AtCeiling = 10
+refusalNumber Refusal.ListFull = 11
+refusalNumber Refusal.NotWhole = 12
+refusalNumber Refusal.TooMany = 13
+refusalNumber Refusal.NoRoom = 14
+
+-- 0 where it is accepted
+abbrev pub answerNumber : Answer → ℕ
+answerNumber Answer.Accepted = 0
+answerNumber (Answer.Withdrew value) = 0
+answerNumber (Answer.Refused why) = refusalNumber why
+
+-- whether a value was withdrawn, and which (0 where none was)
+abbrev pub withdraws : Answer → Bool
+withdraws Answer.Accepted = false
+withdraws (Answer.Withdrew value) = true
+withdraws (Answer.Refused why) = false
+
+abbrev pub answerValue : Answer → ℕ
+answerValue Answer.Accepted = 0
+answerValue (Answer.Withdrew value) = value
+answerValue (Answer.Refused why) = 0

@@ -1,0 +1,73 @@
+-- Which step a request names, which reader it looks for, and what is decided.
+use Prim.Native.Nat.{ℕ}
+use mathlib.Core.Bool.{Bool, false}
+use mathlib.Core.List.{List, [], _∷_}
+use lib.ListN.{getD}
+use Rattle.kinds.specs.declared.Phase.{Phase}
+use Rattle.readers.specs.declared.Found.{Found}
+use Rattle.page_record.specs.declared.Head.{Head}
+use Rattle.steps.specs.declared.Refusal.{Refusal}
+use Rattle.steps.specs.declared.Edit.{Edit}
+use Rattle.steps.specs.declared.Sought.{Sought}
+use Rattle.steps.specs.declared.Request.{Request}
+use Rattle.steps.specs.declared.Decision.{Decision}
+use Rattle.steps.specs.Premises.{Step, decided}
+use Rattle.steps.specs.Steps.{accepts, reader, takeWriteback, releaseWriteback, bucketlessClaim, sharedToClaim, claimToPending, takeExcLockFinishWriteback, takeExcLockCheckRefCount, withdrawTakeExcLockFinish, depositDowngradeExcLock, depositDowngradeExcLockToClaim, withdrawAlloc, withdrawAllocNoRefcount, loadingIncCount, obtainLoading, obtainLoadingNoRefcount, depositLoadingToShared, depositLoadingToDone, excIncCount, sharedIncCount, sharedDecCount, sharedCheckExc, sharedCheckLoading}
+
+-- a number that names no step is refused
+abbrev pub unknown : Head → Step
+unknown h = accepts ((Refusal.UnknownStep, false) ∷ []) h Edit.Keep
+
+-- the steps by their numbers, from 0
+abbrev pub steps : Head → Request → Found → Bool → List Step
+steps h q found full =
+    unknown h
+    ∷ takeWriteback h
+    ∷ releaseWriteback h
+    ∷ bucketlessClaim h
+    ∷ sharedToClaim h q found
+    ∷ claimToPending h
+    ∷ takeExcLockFinishWriteback h q
+    ∷ takeExcLockCheckRefCount h
+    ∷ withdrawTakeExcLockFinish h
+    ∷ depositDowngradeExcLock h q full
+    ∷ depositDowngradeExcLockToClaim h q
+    ∷ withdrawAlloc h
+    ∷ withdrawAllocNoRefcount h
+    ∷ loadingIncCount h q
+    ∷ obtainLoading h
+    ∷ obtainLoadingNoRefcount h
+    ∷ depositLoadingToShared h q full
+    ∷ depositLoadingToDone h q
+    ∷ excIncCount h q
+    ∷ sharedIncCount h q full
+    ∷ sharedDecCount h q found
+    ∷ sharedDecCount h q found
+    ∷ sharedDecCount h q found
+    ∷ sharedCheckExc h q found
+    ∷ sharedCheckLoading h q found
+    ∷ []
+
+abbrev pub stepAt : Head → Request → Found → Bool → Step
+stepAt h q found full = getD (steps h q found full) (q .step) (unknown h)
+
+unfoldable pub decideOf : Head → Request → Found → Bool → Decision
+decideOf h q found full = decided h (stepAt h q found full)
+
+-- the readers that the steps look for, by their numbers, from 0: 4 and 22 an Obtained one with the request's value, 20 and
+-- 23 a Pending one, 21 and 24 a Pending2 one
+abbrev pub sought : Request → List Sought
+sought q =
+    let nobody = Sought.Nobody in
+    let pending = Sought.One (reader Phase.Pending (q .bucket)) in
+    let pending2 = Sought.One (reader Phase.Pending2 (q .bucket)) in
+    let obtained = Sought.One (reader (Phase.Obtained (q .value)) (q .bucket)) in
+    nobody ∷ nobody ∷ nobody ∷ nobody ∷ obtained
+    ∷ nobody ∷ nobody ∷ nobody ∷ nobody ∷ nobody
+    ∷ nobody ∷ nobody ∷ nobody ∷ nobody ∷ nobody
+    ∷ nobody ∷ nobody ∷ nobody ∷ nobody ∷ nobody
+    ∷ pending ∷ pending2 ∷ obtained ∷ pending ∷ pending2
+    ∷ []
+
+unfoldable pub soughtOf : Request → Sought
+soughtOf q = getD (sought q) (q .step) Sought.Nobody

@@ -1,0 +1,73 @@
+// Claims on the page: steps 3 to 5.
+ghost use mathlib.Core.Path.{_≡_};
+ghost use Rattle.steps.specs.Premises.{decided};
+ghost use Rattle.steps.specs.Steps.{bucketlessClaim, sharedToClaim, claimToPending};
+use crate::Decision;
+use crate::Edit;
+use crate::Refusal;
+use crate::Request;
+use crate::decisions::accept;
+use crate::decisions::refuse;
+use crate::setters::value_of;
+use crate::setters::with_exc;
+use kinds::ExcState;
+use kinds::MaybeBucket;
+use kinds::awaited;
+use kinds::claimable;
+use kinds::claimed;
+use page_record::Head;
+use readers::Found;
+
+// 3
+pub fn bucketless_claim(h: Head) -> Decision
+    ensures { λ r. ⌜ r ≡ decided h (bucketlessClaim h) ⌝ }
+{
+    let storage = h.storage;
+    let flag = h.flag;
+    if !claimable(flag) {
+        return refuse(h, Refusal::WrongFlag);
+    }
+    let claim = ExcState::Claim {
+        bucket: MaybeBucket::None,
+        value: value_of(storage),
+    };
+    let next = with_exc(h, storage, claimed(flag), claim);
+    accept(next, Edit::Keep)
+}
+
+// 4: the reader that is found becomes the claimant.
+pub fn shared_to_claim(h: Head, q: Request, found: Found) -> Decision
+    ensures { λ r. ⌜ r ≡ decided h (sharedToClaim h q found) ⌝ }
+{
+    let storage = h.storage;
+    let flag = h.flag;
+    let bucket = q.bucket;
+    let value = q.value;
+    if !claimable(flag) {
+        return refuse(h, Refusal::WrongFlag);
+    }
+    let Found::At(place) = found else {
+        return refuse(h, Refusal::NoHolder);
+    };
+    let claim = ExcState::Claim {
+        bucket: MaybeBucket::At(bucket),
+        value,
+    };
+    let next = with_exc(h, storage, claimed(flag), claim);
+    accept(next, Edit::Remove(place))
+}
+
+// 5
+pub fn claim_to_pending(h: Head) -> Decision
+    ensures { λ r. ⌜ r ≡ decided h (claimToPending h) ⌝ }
+{
+    let storage = h.storage;
+    let flag = h.flag;
+    let exc = h.exc_state;
+    let ExcState::Claim { bucket, value } = exc else {
+        return refuse(h, Refusal::NoHolder);
+    };
+    let waiting = ExcState::PendingAwaitWriteback { bucket, value };
+    let next = with_exc(h, storage, awaited(flag), waiting);
+    accept(next, Edit::Keep)
+}

@@ -1,0 +1,178 @@
+// The editor: steps 6 to 10, and 18.
+ghost use mathlib.Core.Path.{_≡_};
+ghost use Rattle.steps.specs.Premises.{decided};
+ghost use Rattle.steps.specs.Steps.{takeExcLockFinishWriteback, takeExcLockCheckRefCount, withdrawTakeExcLockFinish, depositDowngradeExcLock, depositDowngradeExcLockToClaim, excIncCount};
+use crate::Decision;
+use crate::Edit;
+use crate::Refusal;
+use crate::Request;
+use crate::decisions::accept;
+use crate::decisions::hand_out;
+use crate::decisions::refuse;
+use crate::setters::number_at;
+use crate::setters::ref_at;
+use crate::setters::with_exc;
+use crate::setters::with_number;
+use kinds::BUCKETS;
+use kinds::Bucket;
+use kinds::CEILING;
+use kinds::ExcState;
+use kinds::Flag;
+use kinds::MaybeBucket;
+use kinds::Phase;
+use kinds::Reader;
+use kinds::Storage;
+use kinds::Visited;
+use kinds::lock_flag;
+use kinds::writeback_done;
+use page_record::Head;
+
+// 6
+pub fn take_exc_lock_finish_writeback(h: Head, q: Request) -> Decision
+    ensures { λ r. ⌜ r ≡ decided h (takeExcLockFinishWriteback h q) ⌝ }
+{
+    let storage = h.storage;
+    let flag = h.flag;
+    let exc = h.exc_state;
+    let clean = q.clean == 1;
+    if !writeback_done(flag) {
+        return refuse(h, Refusal::WrongFlag);
+    }
+    let ExcState::PendingAwaitWriteback { bucket, value } = exc else {
+        return refuse(h, Refusal::NoHolder);
+    };
+    let pending = ExcState::Pending {
+        bucket,
+        visited_count: Visited(0),
+        clean,
+        value,
+    };
+    let next = with_exc(h, storage, lock_flag(clean), pending);
+    accept(next, Edit::Keep)
+}
+
+// 7: one reference, the editor's own, at its own bucket, and none elsewhere.
+pub fn take_exc_lock_check_ref_count(h: Head) -> Decision
+    ensures { λ r. ⌜ r ≡ decided h (takeExcLockCheckRefCount h) ⌝ }
+{
+    let storage = h.storage;
+    let flag = h.flag;
+    let exc = h.exc_state;
+    let ExcState::Pending {
+        bucket,
+        visited_count,
+        clean,
+        value,
+    } = exc
+    else {
+        return refuse(h, Refusal::NoHolder);
+    };
+    let visited = visited_count.0;
+    if visited >= BUCKETS {
+        return refuse(h, Refusal::WrongVisited);
+    }
+    let here = Bucket(visited);
+    if number_at(h, here) != ref_at(bucket, here) {
+        return refuse(h, Refusal::OtherCount);
+    }
+    let pending = ExcState::Pending {
+        bucket,
+        visited_count: Visited(visited + 1),
+        clean,
+        value,
+    };
+    let next = with_exc(h, storage, flag, pending);
+    accept(next, Edit::Keep)
+}
+
+// 8: hands the page out.
+pub fn withdraw_take_exc_lock_finish(h: Head) -> Decision
+    ensures { λ r. ⌜ r ≡ decided h (withdrawTakeExcLockFinish h) ⌝ }
+{
+    let flag = h.flag;
+    let exc = h.exc_state;
+    let ExcState::Pending {
+        bucket,
+        visited_count,
+        clean,
+        value,
+    } = exc
+    else {
+        return refuse(h, Refusal::NoHolder);
+    };
+    if visited_count.0 != BUCKETS {
+        return refuse(h, Refusal::WrongVisited);
+    }
+    let obtained = ExcState::Obtained { bucket, clean };
+    let next = with_exc(h, Storage::Out, flag, obtained);
+    hand_out(next, value)
+}
+
+// 9
+pub fn deposit_downgrade_exc_lock(h: Head, q: Request, full: bool) -> Decision
+    ensures { λ r. ⌜ r ≡ decided h (depositDowngradeExcLock h q full) ⌝ }
+{
+    let exc = h.exc_state;
+    let value = q.value;
+    let ExcState::Obtained { bucket, clean: _ } = exc else {
+        return refuse(h, Refusal::NoHolder);
+    };
+    let MaybeBucket::At(own) = bucket else {
+        return refuse(h, Refusal::WrongBucket);
+    };
+    if full {
+        return refuse(h, Refusal::ListFull);
+    }
+    let reader = Reader {
+        phase: Phase::Obtained(value),
+        bucket: own,
+    };
+    let next = with_exc(h, Storage::In(value), Flag::Available, ExcState::None);
+    accept(next, Edit::Push(reader))
+}
+
+// 10
+pub fn deposit_downgrade_exc_lock_to_claim(h: Head, q: Request) -> Decision
+    ensures { λ r. ⌜ r ≡ decided h (depositDowngradeExcLockToClaim h q) ⌝ }
+{
+    let exc = h.exc_state;
+    let value = q.value;
+    let ExcState::Obtained { bucket, clean: _ } = exc else {
+        return refuse(h, Refusal::NoHolder);
+    };
+    let MaybeBucket::At(own) = bucket else {
+        return refuse(h, Refusal::WrongBucket);
+    };
+    let claim = ExcState::Claim {
+        bucket: MaybeBucket::At(own),
+        value,
+    };
+    let next = with_exc(h, Storage::In(value), Flag::Claimed, claim);
+    accept(next, Edit::Keep)
+}
+
+// 18: an editor that has no bucket gets one.
+pub fn exc_inc_count(h: Head, q: Request) -> Decision
+    ensures { λ r. ⌜ r ≡ decided h (excIncCount h q) ⌝ }
+{
+    let storage = h.storage;
+    let flag = h.flag;
+    let exc = h.exc_state;
+    let at = q.bucket;
+    let ExcState::Obtained { bucket, clean } = exc else {
+        return refuse(h, Refusal::NoHolder);
+    };
+    let MaybeBucket::None = bucket else {
+        return refuse(h, Refusal::WrongBucket);
+    };
+    let n = number_at(h, at);
+    if n >= CEILING {
+        return refuse(h, Refusal::AtCeiling);
+    }
+    let obtained = ExcState::Obtained {
+        bucket: MaybeBucket::At(at),
+        clean,
+    };
+    let next = with_exc(h, storage, flag, obtained);
+    accept(with_number(next, at, n + 1), Edit::Keep)
+}

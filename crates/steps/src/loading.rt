@@ -1,0 +1,145 @@
+// The loader: steps 11 to 17.
+ghost use mathlib.Core.Path.{_≡_};
+ghost use Rattle.steps.specs.Premises.{decided};
+ghost use Rattle.steps.specs.Steps.{withdrawAlloc, withdrawAllocNoRefcount, loadingIncCount, obtainLoading, obtainLoadingNoRefcount, depositLoadingToShared, depositLoadingToDone};
+use crate::Decision;
+use crate::Edit;
+use crate::Refusal;
+use crate::Request;
+use crate::decisions::accept;
+use crate::decisions::hand_out;
+use crate::decisions::refuse;
+use crate::setters::lower;
+use crate::setters::number_at;
+use crate::setters::value_of;
+use crate::setters::with_loading;
+use crate::setters::with_number;
+use kinds::CEILING;
+use kinds::Flag;
+use kinds::LoadingState;
+use kinds::MaybeBucket;
+use kinds::Phase;
+use kinds::Reader;
+use kinds::Storage;
+use kinds::is_unmapped;
+use page_record::Head;
+
+// 11: hands the page out.
+pub fn withdraw_alloc(h: Head) -> Decision
+    ensures { λ r. ⌜ r ≡ decided h (withdrawAlloc h) ⌝ }
+{
+    let storage = h.storage;
+    let flag = h.flag;
+    if !is_unmapped(flag) {
+        return refuse(h, Refusal::WrongFlag);
+    }
+    let next = with_loading(h, Storage::Out, Flag::LoadingExcLock, LoadingState::Pending);
+    hand_out(next, value_of(storage))
+}
+
+// 12: hands the page out.
+pub fn withdraw_alloc_no_refcount(h: Head) -> Decision
+    ensures { λ r. ⌜ r ≡ decided h (withdrawAllocNoRefcount h) ⌝ }
+{
+    let storage = h.storage;
+    let flag = h.flag;
+    if !is_unmapped(flag) {
+        return refuse(h, Refusal::WrongFlag);
+    }
+    let obtained = LoadingState::Obtained {
+        bucket: MaybeBucket::None,
+    };
+    let next = with_loading(h, Storage::Out, Flag::Loading, obtained);
+    hand_out(next, value_of(storage))
+}
+
+// 13
+pub fn loading_inc_count(h: Head, q: Request) -> Decision
+    ensures { λ r. ⌜ r ≡ decided h (loadingIncCount h q) ⌝ }
+{
+    let storage = h.storage;
+    let flag = h.flag;
+    let loading = h.loading_state;
+    let at = q.bucket;
+    let LoadingState::Pending = loading else {
+        return refuse(h, Refusal::NoHolder);
+    };
+    let n = number_at(h, at);
+    if n >= CEILING {
+        return refuse(h, Refusal::AtCeiling);
+    }
+    let counted = LoadingState::PendingCounted {
+        bucket: MaybeBucket::At(at),
+    };
+    let next = with_loading(h, storage, flag, counted);
+    accept(with_number(next, at, n + 1), Edit::Keep)
+}
+
+// 14
+pub fn obtain_loading(h: Head) -> Decision
+    ensures { λ r. ⌜ r ≡ decided h (obtainLoading h) ⌝ }
+{
+    let storage = h.storage;
+    let loading = h.loading_state;
+    let LoadingState::PendingCounted { bucket } = loading else {
+        return refuse(h, Refusal::NoHolder);
+    };
+    let obtained = LoadingState::Obtained { bucket };
+    let next = with_loading(h, storage, Flag::Loading, obtained);
+    accept(next, Edit::Keep)
+}
+
+// 15
+pub fn obtain_loading_no_refcount(h: Head) -> Decision
+    ensures { λ r. ⌜ r ≡ decided h (obtainLoadingNoRefcount h) ⌝ }
+{
+    let storage = h.storage;
+    let loading = h.loading_state;
+    let LoadingState::Pending = loading else {
+        return refuse(h, Refusal::NoHolder);
+    };
+    let obtained = LoadingState::Obtained {
+        bucket: MaybeBucket::None,
+    };
+    let next = with_loading(h, storage, Flag::Loading, obtained);
+    accept(next, Edit::Keep)
+}
+
+// 16
+pub fn deposit_loading_to_shared(h: Head, q: Request, full: bool) -> Decision
+    ensures { λ r. ⌜ r ≡ decided h (depositLoadingToShared h q full) ⌝ }
+{
+    let loading = h.loading_state;
+    let value = q.value;
+    let LoadingState::Obtained { bucket } = loading else {
+        return refuse(h, Refusal::NoHolder);
+    };
+    let MaybeBucket::At(own) = bucket else {
+        return refuse(h, Refusal::WrongBucket);
+    };
+    if full {
+        return refuse(h, Refusal::ListFull);
+    }
+    let reader = Reader {
+        phase: Phase::Obtained(value),
+        bucket: own,
+    };
+    let next = with_loading(h, Storage::In(value), Flag::Available, LoadingState::None);
+    accept(next, Edit::Push(reader))
+}
+
+// 17; changed: it takes one off the loader's bucket.
+pub fn deposit_loading_to_done(h: Head, q: Request) -> Decision
+    ensures { λ r. ⌜ r ≡ decided h (depositLoadingToDone h q) ⌝ }
+{
+    let loading = h.loading_state;
+    let value = q.value;
+    let LoadingState::Obtained { bucket } = loading else {
+        return refuse(h, Refusal::NoHolder);
+    };
+    let MaybeBucket::At(own) = bucket else {
+        return refuse(h, Refusal::WrongBucket);
+    };
+    let next = with_loading(h, Storage::In(value), Flag::Available, LoadingState::None);
+    accept(lower(next, own), Edit::Keep)
+}

@@ -1,0 +1,111 @@
+// Readers: steps 19 to 24.
+ghost use mathlib.Core.Path.{_≡_};
+ghost use Rattle.steps.specs.Premises.{decided};
+ghost use Rattle.steps.specs.Steps.{sharedIncCount, sharedDecCount, sharedCheckExc, sharedCheckLoading};
+use crate::Decision;
+use crate::Edit;
+use crate::Refusal;
+use crate::Request;
+use crate::decisions::accept;
+use crate::decisions::refuse;
+use crate::setters::lower;
+use crate::setters::number_at;
+use crate::setters::value_of;
+use crate::setters::with_number;
+use kinds::CEILING;
+use kinds::Phase;
+use kinds::Reader;
+use kinds::not_loading;
+use kinds::open_to_readers;
+use page_record::Head;
+use readers::Found;
+
+// 19
+pub fn shared_inc_count(h: Head, q: Request, full: bool) -> Decision
+    ensures { λ r. ⌜ r ≡ decided h (sharedIncCount h q full) ⌝ }
+{
+    let bucket = q.bucket;
+    let n = number_at(h, bucket);
+    if n >= CEILING {
+        return refuse(h, Refusal::AtCeiling);
+    }
+    if full {
+        return refuse(h, Refusal::ListFull);
+    }
+    let reader = Reader {
+        phase: Phase::Pending,
+        bucket,
+    };
+    accept(with_number(h, bucket, n + 1), Edit::Push(reader))
+}
+
+// 20, 21 and 22 differ in the reader that is sought alone.
+fn shared_dec_count(h: Head, q: Request, found: Found) -> Decision
+    ensures { λ r. ⌜ r ≡ decided h (sharedDecCount h q found) ⌝ }
+{
+    let bucket = q.bucket;
+    let Found::At(place) = found else {
+        return refuse(h, Refusal::NoHolder);
+    };
+    accept(lower(h, bucket), Edit::Remove(place))
+}
+
+// 20
+pub fn shared_dec_count_pending(h: Head, q: Request, found: Found) -> Decision
+    ensures { λ r. ⌜ r ≡ decided h (sharedDecCount h q found) ⌝ }
+{
+    shared_dec_count(h, q, found)
+}
+
+// 21
+pub fn shared_dec_count_pending2(h: Head, q: Request, found: Found) -> Decision
+    ensures { λ r. ⌜ r ≡ decided h (sharedDecCount h q found) ⌝ }
+{
+    shared_dec_count(h, q, found)
+}
+
+// 22
+pub fn shared_dec_count_obtained(h: Head, q: Request, found: Found) -> Decision
+    ensures { λ r. ⌜ r ≡ decided h (sharedDecCount h q found) ⌝ }
+{
+    shared_dec_count(h, q, found)
+}
+
+// 23; changed: no value.
+pub fn shared_check_exc(h: Head, q: Request, found: Found) -> Decision
+    ensures { λ r. ⌜ r ≡ decided h (sharedCheckExc h q found) ⌝ }
+{
+    let flag = h.flag;
+    let bucket = q.bucket;
+    if !open_to_readers(flag) {
+        return refuse(h, Refusal::WrongFlag);
+    }
+    let Found::At(place) = found else {
+        return refuse(h, Refusal::NoHolder);
+    };
+    let reader = Reader {
+        phase: Phase::Pending2,
+        bucket,
+    };
+    accept(h, Edit::Put(place, reader))
+}
+
+// 24
+pub fn shared_check_loading(h: Head, q: Request, found: Found) -> Decision
+    ensures { λ r. ⌜ r ≡ decided h (sharedCheckLoading h q found) ⌝ }
+{
+    let storage = h.storage;
+    let flag = h.flag;
+    let bucket = q.bucket;
+    if !not_loading(flag) {
+        return refuse(h, Refusal::WrongFlag);
+    }
+    let Found::At(place) = found else {
+        return refuse(h, Refusal::NoHolder);
+    };
+    let reader = Reader {
+        phase: Phase::Obtained(value_of(storage)),
+        bucket,
+    };
+    accept(h, Edit::Put(place, reader))
+}

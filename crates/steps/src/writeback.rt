@@ -1,0 +1,45 @@
+// The archive: steps 1 and 2.
+ghost use mathlib.Core.Path.{_≡_};
+ghost use Rattle.steps.specs.Premises.{decided};
+ghost use Rattle.steps.specs.Steps.{takeWriteback, releaseWriteback};
+use crate::Decision;
+use crate::Edit;
+use crate::Refusal;
+use crate::decisions::accept;
+use crate::decisions::refuse;
+use crate::setters::value_of;
+use crate::setters::with_writeback;
+use kinds::Flag;
+use kinds::WritebackState;
+use kinds::is_available;
+use kinds::released;
+use page_record::Head;
+
+// 1
+pub fn take_writeback(h: Head) -> Decision
+    ensures { λ r. ⌜ r ≡ decided h (takeWriteback h) ⌝ }
+{
+    let storage = h.storage;
+    let flag = h.flag;
+    if !is_available(flag) {
+        return refuse(h, Refusal::WrongFlag);
+    }
+    let held = WritebackState::Held {
+        value: value_of(storage),
+    };
+    let next = with_writeback(h, Flag::Writeback, held);
+    accept(next, Edit::Keep)
+}
+
+// 2
+pub fn release_writeback(h: Head) -> Decision
+    ensures { λ r. ⌜ r ≡ decided h (releaseWriteback h) ⌝ }
+{
+    let flag = h.flag;
+    let writeback = h.writeback_state;
+    let WritebackState::Held { value: _ } = writeback else {
+        return refuse(h, Refusal::NoHolder);
+    };
+    let next = with_writeback(h, released(flag), WritebackState::None);
+    accept(next, Edit::Keep)
+}
