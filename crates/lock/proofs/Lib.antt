@@ -1,0 +1,15 @@
+pub mod Pick
+pub mod Counts
+pub mod Sounds
+pub mod Passes
+pub mod Cells
+pub mod Shared
+pub mod Rows
+pub mod Keeps
+pub mod Reach
+pub mod Least
+pub mod MoveLaws
+pub mod MoveFacts
+pub mod Takes
+pub mod Fits
+pub mod Exact

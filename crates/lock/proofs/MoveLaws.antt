@@ -1,0 +1,206 @@
+-- What both halves of the theorem use: what it is to be accepted; what a request that is judged well formed says of its
+-- fields; the flags of step 23 and what step 7 expects, in the relation's words; the list taken apart at the first equal
+-- reader; the counts after one is set. Assumes nothing.
+use Prim.Native.Nat.{ℕ, _+_, _≤_, _<_}
+use mathlib.Core.Path.{_≡_, refl, sym, ap, _∙_}
+use mathlib.Core.Logic.{_⊎_, inl, inr, _≢_}
+use mathlib.Core.Bool.{Bool, true, false, not, cond, _&&_, _||_}
+use mathlib.Core.List.{List, [], _∷_, _++_}
+use native.Mathlib.Omega.{arith}
+use native.Mathlib.Numerals.{add-one}
+use lib.Dec.{T, eqb, leb, leb→le}
+use lib.ListN.{length, take, drop, getD, set, length-set}
+use lib.Seq.{split-at, set-split, getD-set-same, getD-set-other, ext-getD}
+use borrow.Author.Tests.{eqb-true, eqb-false, eq-eqb, ne-eqb}
+use Rattle.kinds.specs.Limits.{buckets, capacity}
+use Rattle.kinds.specs.Flags.{openToReaders}
+use Rattle.kinds.specs.declared.Count.{Count}
+use Rattle.kinds.specs.declared.MaybeBucket.{MaybeBucket}
+use Rattle.kinds.specs.declared.Flag.{Flag}
+use Rattle.kinds.specs.declared.Storage.{Storage}
+use Rattle.kinds.specs.declared.Reader.{Reader}
+use Rattle.readers.specs.declared.Found.{Found}
+use Rattle.readers.specs.Lists.{without}
+use Rattle.readers.specs.Same.{sameReader}
+use Rattle.readers.specs.Listed.{findIn, blankReader}
+use Rattle.readers.proofs.Tests.{both, halves, to-true, is-true}
+use Rattle.readers.proofs.Equal.{same-refl, same-is}
+use Rattle.readers.proofs.First.{absent, find-split}
+use Rattle.page_record.specs.declared.Head.{Head}
+use Rattle.page_record.specs.Holders.{bucketOf}
+use Rattle.page_record.specs.Pages.{numberAt}
+use Rattle.page_record.specs.References.{refAt}
+use Rattle.steps.specs.declared.Refusal.{Refusal}
+use Rattle.steps.specs.declared.Answer.{Answer}
+use Rattle.steps.specs.declared.Verdict.{Verdict}
+use Rattle.steps.specs.declared.Sought.{Sought}
+use Rattle.steps.specs.declared.Request.{Request}
+use Rattle.steps.specs.declared.Decision.{Decision}
+use Rattle.steps.specs.Premises.{Step, decided}
+use Rattle.steps.specs.Requests.{lastStep, takesBucket, takesClean, takesValue, formal, judged}
+use Rattle.steps.specs.Steps.{isFound, placeOf}
+use Rattle.steps.specs.Decide.{unknown, steps, sought, decideOf, soughtOf}
+use Rattle.lock.specs.Step.{edited, lookFor, decidedOn}
+use Rattle.lock.specs.Moves.{some, Absent, answerOf}
+use Rattle.lock.proofs.Passes.{passes-of, judged-bucket}
+use Rattle.lock.proofs.Cells.{found-first}
+use Rattle.lock.proofs.Counts.{set-there, set-others}
+
+-- ---- acceptance
+-- the decision on a list of readers accepts, hands this out, and leaves this head and this list
+pub record Accepts (d : Decision) (l : List Reader) (h′ : Head) (l′ : List Reader) (out : Storage) : Type 0 where
+  pub answer : d .answer ≡ answerOf out
+  pub head : d .head ≡ h′
+  pub list : edited (d .edit) l ≡ l′
+
+-- what an answer hands out
+abbrev pub handed : Answer → Storage
+handed Answer.Accepted = Storage.Out
+handed (Answer.Withdrew value) = Storage.In value
+handed (Answer.Refused why) = Storage.Out
+
+pub is-handed : (out : Storage) → out ≡ handed (answerOf out)
+is-handed Storage.Out = refl
+is-handed (Storage.In v) = refl
+
+pub same-out : (a b : Storage) → answerOf a ≡ answerOf b → a ≡ b
+same-out a b e = is-handed a ∙ (ap handed e ∙ sym (is-handed b))
+
+-- a refusal doesn't accept
+pub unrefused : (why : Refusal) (out : Storage) → Answer.Refused why ≡ answerOf out → ⊥
+unrefused why Storage.Out e = let z : _≡_ {A = ℕ} 0 1 = cc in omega arith
+unrefused why (Storage.In v) e = let z : _≡_ {A = ℕ} 0 1 = cc in omega arith
+
+-- the step with this number, by which a request is decided
+abbrev pub stepNo : Head → List Reader → Request → ℕ → Step
+stepNo h l q n = getD (steps h q (lookFor l (getD (sought q) n Sought.Nobody)) (leb capacity (length l))) n (unknown h)
+
+pub by-number : (h : Head) (l : List Reader) (q : Request) → decidedOn h l q ≡ decided h (stepNo h l q (q .step))
+unfolding decideOf soughtOf
+by-number h l q = refl
+
+-- ---- a request that is judged well formed
+pub record Formed (q : Request) : Type 0 where
+  pub most : q .step ≤ lastStep
+  pub bucket : q .bucket .0 < buckets
+  pub clean : q .clean ≤ 1
+
+clean-below : (t : Bool) (c : ℕ) → T (leb c (cond t 1 0)) → c ≤ 1
+clean-below true c t = leb→le c 1 t
+clean-below false c t = omega (arith, leb→le c 0 t)
+
+pub formed : (q : Request) → judged q ≡ Verdict.Passed → Formed q
+unfolding judged
+formed q e =
+    let p = passes-of (formal q) e in
+    let n = q .step in
+    let bucket = takesBucket n || eqb (q .bucket .0) 0 in
+    let clean = leb (q .clean) (cond (takesClean n) 1 0) in
+    let fields = halves bucket clean (halves (bucket && clean) (takesValue n || eqb (q .value) 0) (p .1 .0) .0) in
+    record {
+      most = leb→le n lastStep (halves (leb 1 n) (leb n lastStep) (p .0) .1);
+      bucket = judged-bucket q e;
+      clean = clean-below (takesClean n) (q .clean) (fields .1);
+    }
+
+-- ---- the relation's words and the tests
+-- the five flags of step 23
+abbrev pub Open : Flag → Type 0
+Open f = (f ≡ Flag.Available) ⊎ (f ≡ Flag.Writeback) ⊎ (f ≡ Flag.Claimed) ⊎ (f ≡ Flag.WritebackAndClaimed) ⊎ (f ≡ Flag.Loading)
+
+pub is-open : (f : Flag) → Open f → openToReaders f ≡ true
+is-open f (inl e) = rw e
+is-open f (inr (inl e)) = rw e
+is-open f (inr (inr (inl e))) = rw e
+is-open f (inr (inr (inr (inl e)))) = rw e
+is-open f (inr (inr (inr (inr e)))) = rw e
+
+pub opened : (f : Flag) → T (openToReaders f) → Open f
+opened Flag.Unmapped t = absurd t
+opened Flag.Loading t = inr (inr (inr (inr refl)))
+opened Flag.LoadingExcLock t = absurd t
+opened Flag.Available t = inl refl
+opened Flag.Claimed t = inr (inr (inl refl))
+opened Flag.Writeback t = inr (inl refl)
+opened Flag.WritebackAndClaimed t = inr (inr (inr (inl refl)))
+opened Flag.WritebackAndPendingExcLock t = absurd t
+opened Flag.PendingExcLock t = absurd t
+opened Flag.ExcLockClean t = absurd t
+opened Flag.ExcLockDirty t = absurd t
+
+-- what step 7 expects at bucket n of an editor that has bucket m
+abbrev pub Expects : MaybeBucket → ℕ → ℕ → Type 0
+Expects m n c = ((some (record { 0 = n }) ≡ m) × (c ≡ 1)) ⊎ ((some (record { 0 = n }) ≢ m) × (c ≡ 0))
+
+pub is-expected : (m : MaybeBucket) (n c : ℕ) → Expects m n c → refAt m n ≡ c
+is-expected m n c (inl p) = rw (← p .0, eq-eqb n n refl) (sym (p .1))
+is-expected MaybeBucket.None n c (inr p) = sym (p .1)
+is-expected (MaybeBucket.At b) n c (inr p) = rw (ne-eqb (b .0) n (λ e. p .0 (ap (λ (x : ℕ). some (record { 0 = x })) (sym e)))) (sym (p .1))
+
+pub expected : (m : MaybeBucket) (n : ℕ) → Expects m n (refAt m n)
+expected MaybeBucket.None n = inr ((λ e. let z : _≡_ {A = ℕ} 0 1 = cc in omega arith), refl)
+expected (MaybeBucket.At b) n = go (eqb (b .0) n) refl
+  where
+    go : (t : Bool) → eqb (b .0) n ≡ t → Expects (some b) n (cond t 1 0)
+    go true e = inl (ap (λ (x : ℕ). some (record { 0 = x })) (sym (eqb-true (b .0) n e)), refl)
+    go false e = inr ((λ p. eqb-false (b .0) n e (ap (λ (x : MaybeBucket). bucketOf x .0) (sym p))), refl)
+
+-- ---- the list taken apart at the first equal reader
+module _ (x : Reader) where
+  absent-is : (l : List Reader) → Absent x l → T (absent x l)
+  absent-is [] a = tt
+  absent-is (r ∷ l) a = both (not (sameReader r x)) (absent x l) (go (sameReader r x) refl) (absent-is l (a .1))
+    where
+      go : (t : Bool) → sameReader r x ≡ t → T (not t)
+      go true e = a .0 (same-is r x (is-true e))
+      go false e = tt
+
+  is-absent : (l : List Reader) → T (absent x l) → Absent x l
+  is-absent [] t = tt
+  is-absent (r ∷ l) t =
+      let h = halves (not (sameReader r x)) (absent x l) t in
+      ((λ e. rw (e, to-true (sameReader x x) (same-refl x)) at (h .0)), is-absent l (h .1))
+
+  -- it is found where the list splits
+  pub find-first : (before after : List Reader) → Absent x before → findIn (before ++ x ∷ after) x ≡ Found.At (length before)
+  find-first before after a = find-split x before after (absent-is before a)
+
+-- the list at the place at which it is found: what removing it, or putting another in its place, leaves
+pub record Split (x : Reader) (l : List Reader) (i : ℕ) : Type 0 where
+  pub before : List Reader
+  pub after : List Reader
+  pub whole : l ≡ before ++ x ∷ after
+  pub first : Absent x before
+  pub removed : without i l ≡ before ++ after
+  pub put : (y : Reader) → set l i y ≡ before ++ y ∷ after
+  pub inside : i < length l
+  pub equal : getD l i blankReader ≡ x
+
+pub split : (l : List Reader) (x : Reader) → T (isFound (findIn l x)) → Split x l (placeOf (findIn l x))
+split l x t =
+    let i = placeOf (findIn l x) in
+    let f = found-first l x t in
+    let inside : i < length l = f .inside in
+    record {
+      before = take i l;
+      after = drop (i + 1) l;
+      whole = split-at l i blankReader inside ∙ rw (f .equal, ← add-one i);
+      first = is-absent x (take i l) (f .before);
+      removed = refl;
+      put = λ y. rw add-one (set-split l i y inside);
+      inside = inside;
+      equal = f .equal;
+    }
+
+-- ---- the counts: the one that is set, and the others
+module _ (cs : List Count) (a n : ℕ) where
+  -- counts that agree with these everywhere but at a, where they are n, are these with a set to n
+  pub is-set : (ds : List Count) → a < length cs → length ds ≡ length cs → numberAt ds a ≡ n
+      → ((b : ℕ) → b ≢ a → numberAt ds b ≡ numberAt cs b) → set cs a (record { 0 = n }) ≡ ds
+  is-set ds h long there others =
+      ext-getD (record { 0 = 0 }) (set cs a (record { 0 = n })) ds (simp length-set (sym long))
+      λ i k. ap (λ (m : ℕ). record { 0 = m }) (go i (eqb a i) refl)
+    where
+      go : (i : ℕ) (t : Bool) → eqb a i ≡ t → numberAt (set cs a (record { 0 = n })) i ≡ numberAt ds i
+      go i true e = rw (← eqb-true a i e) (set-there cs a n h ∙ sym there)
+      go i false e = let d : i ≢ a = λ p. eqb-false a i e (sym p) in set-others cs a n i d ∙ sym (others i d)

@@ -1,0 +1,202 @@
+-- What the source's transition allows, and the limits leave room for, is accepted (⇐): the lines of the constructor make the
+-- premises and what the step leaves compute, and its other lines say the same of `post`. Of soundness this half uses only that
+-- there are four counts, and that a loader's bucket is one of them. Assumes nothing.
+use Prim.Native.Nat.{ℕ, _+_, _-_, _<_}
+use mathlib.Core.Path.{_≡_, refl, sym, ap, _∙_}
+use mathlib.Core.Logic.{inl, inr, _≢_}
+use mathlib.Core.Bool.{true, false}
+use mathlib.Core.List.{List}
+use native.Mathlib.Omega.{arith}
+use lib.Dec.{T, ltb→lt}
+use lib.ListN.{length}
+use lib.Seq.{set-append-seam}
+use borrow.Author.Tests.{lt-ltb, lt-leb, eq-eqb}
+use Rattle.kinds.specs.Limits.{buckets, ceiling, capacity}
+use Rattle.kinds.specs.Flags.{writebackDone, notLoading}
+use Rattle.kinds.specs.declared.Bucket.{Bucket}
+use Rattle.kinds.specs.declared.MaybeBucket.{MaybeBucket}
+use Rattle.kinds.specs.declared.Flag.{Flag}
+use Rattle.kinds.specs.declared.Storage.{Storage}
+use Rattle.kinds.specs.declared.Reader.{Reader}
+use Rattle.kinds.specs.declared.LoadingState.{LoadingState}
+use Rattle.readers.proofs.Lists.{without-split}
+use Rattle.page_record.specs.declared.Head.{Head}
+use Rattle.page_record.specs.Holders.{isLoaded}
+use Rattle.page_record.specs.Pages.{numberAt}
+use Rattle.page_record.specs.Facts.{Sound}
+use Rattle.page_record.specs.Shapes as Shapes
+use Rattle.steps.specs.declared.Request.{Request}
+use Rattle.steps.specs.declared.Decision.{Decision}
+use Rattle.steps.specs.Premises.{decided}
+use Rattle.steps.specs.Setters.{withNumber, raise, lower}
+use Rattle.lock.specs.Step.{edited, lookFor, decidedOn}
+use Rattle.lock.specs.Moves
+use Rattle.lock.specs.Moves.{stateWith, countOf, Elsewhere, Room, answerOf, obtained, pending, pending2}
+use Rattle.lock.proofs.MoveLaws.{Accepts, stepNo, by-number, is-open, is-expected, find-first, is-set}
+use Rattle.lock.proofs.MoveFacts.{granted}
+
+-- ---- a decision's parts, one by one
+record Parts (d : Decision) (l : List Reader) (h′ : Head) (l′ : List Reader) (out : Storage) : Type 0 where
+  answer : d .answer ≡ answerOf out
+  storage : d .head .storage ≡ h′ .storage
+  flag : d .head .flag ≡ h′ .flag
+  counts : d .head .«ref_counts» ≡ h′ .«ref_counts»
+  exc : d .head .«exc_state» ≡ h′ .«exc_state»
+  loading : d .head .«loading_state» ≡ h′ .«loading_state»
+  writeback : d .head .«writeback_state» ≡ h′ .«writeback_state»
+  list : edited (d .edit) l ≡ l′
+
+took : {d : Decision} {l : List Reader} {h′ : Head} {l′ : List Reader} {out : Storage}
+    → Parts d l h′ l′ out → Accepts d l h′ l′ out
+took p = record {
+  answer = p .answer;
+  head = λ i. Shapes.head (p .storage i) (p .flag i) (p .counts i) (p .exc i) (p .loading i) (p .writeback i);
+  list = p .list;
+}
+
+-- ---- the flags of steps 6 and 24
+done : (f : Flag) → f ≢ Flag.Writeback → f ≢ Flag.WritebackAndPendingExcLock → writebackDone f ≡ true
+done Flag.Unmapped a b = refl
+done Flag.Loading a b = refl
+done Flag.LoadingExcLock a b = refl
+done Flag.Available a b = refl
+done Flag.Claimed a b = refl
+done Flag.Writeback a b = absurd (a refl)
+done Flag.WritebackAndClaimed a b = refl
+done Flag.WritebackAndPendingExcLock a b = absurd (b refl)
+done Flag.PendingExcLock a b = refl
+done Flag.ExcLockClean a b = refl
+done Flag.ExcLockDirty a b = refl
+
+unloaded : (f : Flag) → f ≢ Flag.Loading → notLoading f ≡ true
+unloaded Flag.Unmapped a = refl
+unloaded Flag.Loading a = absurd (a refl)
+unloaded Flag.LoadingExcLock a = refl
+unloaded Flag.Available a = refl
+unloaded Flag.Claimed a = refl
+unloaded Flag.Writeback a = refl
+unloaded Flag.WritebackAndClaimed a = refl
+unloaded Flag.WritebackAndPendingExcLock a = refl
+unloaded Flag.PendingExcLock a = refl
+unloaded Flag.ExcLockClean a = refl
+unloaded Flag.ExcLockDirty a = refl
+
+-- ---- the transitions
+module _ (h : Head) (l : List Reader) (q : Request) (h′ : Head) (l′ : List Reader) (out : Storage) (s : Sound h l) where
+  -- the request is decided by the step that it names
+  step-is : (n : ℕ) → q .step ≡ n → Accepts (decided h (stepNo h l q n)) l h′ l′ out → Accepts (decidedOn h l q) l h′ l′ out
+  step-is n e a = rw (by-number, e) a
+
+  -- the counts, where one is set and the others stay
+  module _ (b : Bucket) (below : b .0 < buckets) (elsewhere : Elsewhere (stateWith h l) (stateWith h′ l′) b) where
+    recounted : (n : ℕ) → countOf (stateWith h′ l′) b ≡ n → withNumber (b .0) n (h .«ref_counts») ≡ h′ .«ref_counts»
+    recounted n e =
+        is-set (h .«ref_counts») (b .0) n (h′ .«ref_counts») (omega (arith, s .four)) (elsewhere .as-many) e
+        λ i d. elsewhere .others (record { 0 = i }) λ p. d (ap (λ (x : Bucket). x .0) p)
+
+    module _ (n : ℕ) (was : countOf (stateWith h l) b ≡ n) where
+      one-more : countOf (stateWith h′ l′) b ≡ n + 1 → raise (b .0) (h .«ref_counts») ≡ h′ .«ref_counts»
+      one-more e = recounted (numberAt (h .«ref_counts») (b .0) + 1) (rw was e)
+
+      one-less : countOf (stateWith h′ l′) b ≡ n - 1 → lower (b .0) (h .«ref_counts») ≡ h′ .«ref_counts»
+      one-less e = recounted (numberAt (h .«ref_counts») (b .0) - 1) (rw was e)
+
+  -- a loader's bucket is one of the four
+  loaded-below : (b : Bucket) → h .«loading_state» ≡ LoadingState.Obtained (MaybeBucket.At b) → b .0 < buckets
+  loaded-below b e =
+      let t : T (isLoaded (h .«loading_state»)) = rw e tt in
+      ltb→lt (b .0) buckets (rw e at (granted h (s .head) .loaded t .1))
+
+  pub takes : Moves.Moves (stateWith h l) q (stateWith h′ l′) out → Room (stateWith h l) q → Accepts (decidedOn h l q) l h′ l′ out
+  unfolding lookFor
+  takes (Moves.take-writeback value step require update bird add only) room =
+      step-is 1 step (rw (require, bird) (took (search)))
+  takes (Moves.release-writeback any step remove (inl m) only) room =
+      step-is 2 step (rw (remove .0, m .0) (took (search)))
+  takes (Moves.release-writeback any step remove (inr (inl m)) only) room =
+      step-is 2 step (rw (remove .0, m .0) (took (search)))
+  takes (Moves.release-writeback any step remove (inr (inr m)) only) room =
+      step-is 2 step (rw (remove .0, m .0) (took (search)))
+  takes (Moves.bucketless-claim value step (inl m) bird add only) room =
+      step-is 3 step (rw (m .0, bird) (took (search)))
+  takes (Moves.bucketless-claim value step (inr m) bird add only) room =
+      step-is 3 step (rw (m .0, bird) (took (search)))
+  takes (Moves.shared-to-claim reader before after step is remove first removed (inl m) add only) room =
+      let x = obtained (q .bucket) (q .value) in
+      let exc = sym (add .1) in
+      let list = without-split before x after ∙ sym removed in
+      step-is 4 step (rw (remove, is, find-first x before after (rw is at first), m .0) (took (search)))
+  takes (Moves.shared-to-claim reader before after step is remove first removed (inr m) add only) room =
+      let x = obtained (q .bucket) (q .value) in
+      let exc = sym (add .1) in
+      let list = without-split before x after ∙ sym removed in
+      step-is 4 step (rw (remove, is, find-first x before after (rw is at first), m .0) (took (search)))
+  takes (Moves.claim-to-pending bucket value step remove add (inl m) only) room =
+      step-is 5 step (rw (remove, m .0) (took (search)))
+  takes (Moves.claim-to-pending bucket value step remove add (inr m) only) room =
+      step-is 5 step (rw (remove, m .0) (took (search)))
+  takes (Moves.take-exc-lock-finish-writeback true bucket value step named require remove add update only) room =
+      step-is 6 step (rw (done (h .flag) (require .0) (require .1), remove, named) (took (search)))
+  takes (Moves.take-exc-lock-finish-writeback false bucket value step named require remove add update only) room =
+      step-is 6 step (rw (done (h .flag) (require .0) (require .1), remove, named) (took (search)))
+  takes (Moves.take-exc-lock-check-ref-count bucket visited clean value rc step remove require add expect have only) room =
+      let found = have ∙ sym (is-expected bucket (visited .0) rc expect) in
+      step-is 7 step (rw (remove, lt-ltb (visited .0) buckets require, eq-eqb _ _ found) (took (search)))
+  takes (Moves.withdraw-take-exc-lock-finish bucket visited clean value step remove require add withdraw only) room =
+      step-is 8 step (rw (remove, eq-eqb (visited .0) buckets require) (took (search)))
+  takes (Moves.deposit-downgrade-exc-lock bucket clean some step remove require update deposit add only) room =
+      let free : length l < capacity = room .free (rw step tt) in
+      step-is 9 step (rw (remove .0, require, lt-leb capacity (length l) free) (took (search)))
+  takes (Moves.deposit-downgrade-exc-lock-to-claim bucket clean some step remove require update deposit add only) room =
+      step-is 10 step (rw (remove, require) (took (search)))
+  takes (Moves.withdraw-alloc any step require update add withdraw only) room =
+      step-is 11 step (rw (require, withdraw .0) (took (search)))
+  takes (Moves.withdraw-alloc-no-refcount any step require update add withdraw only) room =
+      step-is 12 step (rw (require, withdraw .0) (took (search)))
+  takes (Moves.loading-inc-count n step below remove was add is elsewhere only) room =
+      let under : countOf (stateWith h l) (q .bucket) < ceiling = room .under (rw step tt) in
+      let counts = one-more (q .bucket) below elsewhere n was is in
+      step-is 13 step (rw (remove, lt-ltb _ ceiling under) (took (search)))
+  takes (Moves.obtain-loading bucket step remove add update only) room =
+      step-is 14 step (rw remove (took (search)))
+  takes (Moves.obtain-loading-no-refcount step remove add update only) room =
+      step-is 15 step (rw remove (took (search)))
+  takes (Moves.deposit-loading-to-shared bucket some step remove require update deposit add only) room =
+      let free : length l < capacity = room .free (rw step tt) in
+      step-is 16 step (rw (remove .0, require, lt-leb capacity (length l) free) (took (search)))
+  takes (Moves.deposit-loading-to-done bucket some n step remove require update deposit was as-nat is elsewhere only) room =
+      let below : some .0 < buckets = loaded-below some (remove .0 ∙ ap LoadingState.Obtained require) in
+      let counts = one-less some below elsewhere n was is in
+      step-is 17 step (rw (remove .0, require) (took (search)))
+  takes (Moves.exc-inc-count none clean n step below remove require was add is elsewhere only) room =
+      let under : countOf (stateWith h l) (q .bucket) < ceiling = room .under (rw step tt) in
+      let counts = one-more (q .bucket) below elsewhere n was is in
+      step-is 18 step (rw (remove, require, lt-ltb _ ceiling under) (took (search)))
+  takes (Moves.shared-inc-count n step below was is elsewhere add only) room =
+      let under : countOf (stateWith h l) (q .bucket) < ceiling = room .under (rw step tt) in
+      let free : length l < capacity = room .free (rw step tt) in
+      let counts = one-more (q .bucket) below elsewhere n was is in
+      step-is 19 step (rw (lt-ltb _ ceiling under, lt-leb capacity (length l) free) (took (search)))
+  takes (Moves.shared-dec-count-pending n before after step below was remove first removed as-nat is elsewhere only) room =
+      let x = pending (q .bucket) in
+      let list = without-split before x after ∙ sym removed in
+      let counts = one-less (q .bucket) below elsewhere n was is in
+      step-is 20 step (rw (remove, find-first x before after first) (took (search)))
+  takes (Moves.shared-dec-count-pending2 n before after step below was remove first removed as-nat is elsewhere only) room =
+      let x = pending2 (q .bucket) in
+      let list = without-split before x after ∙ sym removed in
+      let counts = one-less (q .bucket) below elsewhere n was is in
+      step-is 21 step (rw (remove, find-first x before after first) (took (search)))
+  takes (Moves.shared-dec-count-obtained n before after step below was remove first removed as-nat is elsewhere only) room =
+      let x = obtained (q .bucket) (q .value) in
+      let list = without-split before x after ∙ sym removed in
+      let counts = one-less (q .bucket) below elsewhere n was is in
+      step-is 22 step (rw (remove, find-first x before after first) (took (search)))
+  takes (Moves.shared-check-exc before after step require remove first add only) room =
+      let x = pending (q .bucket) in
+      let list = set-append-seam before x after (pending2 (q .bucket)) ∙ sym add in
+      step-is 23 step (rw (is-open (h .flag) require, remove, find-first x before after first) (took (search)))
+  takes (Moves.shared-check-loading value before after step below require remove first bird add only) room =
+      let x = pending2 (q .bucket) in
+      let list = set-append-seam before x after (obtained (q .bucket) value) ∙ sym add in
+      step-is 24 step (rw (unloaded (h .flag) require, remove, find-first x before after first, bird) (took (search)))

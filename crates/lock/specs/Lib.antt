@@ -1,0 +1,4 @@
+pub mod Words
+pub mod Step
+pub mod Applies
+pub mod Moves

@@ -1,0 +1,3 @@
+pub mod Kind
+pub mod Lent
+pub mod Loan
