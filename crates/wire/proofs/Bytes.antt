@@ -1,0 +1,82 @@
+-- Laws of numbers as bytes, in this order: bytes, how large their number is, one turn of each loop, and that reading and
+-- writing a number undo each other. Assumes nothing.
+use Prim.Native.Nat.{ℕ, zero, suc, _+_, _*_, _/_, _%_, _^_, _-_, _<_, _≤_}
+use mathlib.Core.Path.{_≡_, refl, sym}
+use mathlib.Core.Bool.{Bool, true, false, _&&_}
+use mathlib.Core.List.{List, [], _∷_, _++_}
+use native.Mathlib.Omega.{arith}
+use native.Mathlib.Numerals.{add-one}
+use native.Mathlib.Nat.{pow-succ'}
+use borrow.Author.Tests.{eqb-true}
+use lib.Dec.{eqb}
+use lib.ListN.{length, take, drop, getD, set, replicate}
+use lib.Seq.{drop-cons, getD-drop, take-suc-set, append-snoc}
+use Rattle.wire.specs.Bytes.{number, digits, blank}
+
+-- ---- bytes
+-- each is below 256; what lies past the end counts as 0
+abbrev pub Bytes : List ℕ → Type 0
+Bytes l = (i : ℕ) → getD l i 0 < 256
+
+pub bytes-take : (n : ℕ) (l : List ℕ) → Bytes l → Bytes (take n l)
+bytes-take zero l b i = omega arith
+bytes-take (suc n) [] b i = omega arith
+bytes-take (suc n) (x ∷ l) b zero = b 0
+bytes-take (suc n) (x ∷ l) b (suc i) = bytes-take n l (λ j. b (suc j)) i
+
+pub bytes-drop : (n : ℕ) (l : List ℕ) → Bytes l → Bytes (drop n l)
+bytes-drop n l b i = rw getD-drop (b (n + i))
+
+-- two tests that both hold
+pub both : (a b : Bool) → (a && b) ≡ true → (a ≡ true) × (b ≡ true)
+both true b e = (refl, e)
+both false b e = absurd (let z : _≡_ {A = ℕ} 0 1 = cc in omega arith)
+
+-- bytes that are all zero are so many zeros
+pub zeros-are : (l : List ℕ) → blank l ≡ true → l ≡ replicate (length l) 0
+zeros-are [] e = refl
+zeros-are (b ∷ bs) e =
+    let t = both (eqb b 0) (blank bs) e in
+    let z = eqb-true b 0 (t .0) in
+    let r = zeros-are bs (t .1) in
+    cc
+
+-- ---- the size of a number
+above : (n : ℕ) → 0 < 256 ^ n
+above zero = omega arith
+above (suc n) = rw pow-succ' (omega (arith, above n))
+
+pub number-below : (n : ℕ) (l : List ℕ) → length l ≤ n → Bytes l → number l < 256 ^ n
+number-below n [] h b = above n
+number-below zero (x ∷ l) h b = absurd (omega arith)
+number-below (suc n) (x ∷ l) h b =
+    let r = number-below n l (omega arith) (λ i. b (suc i)) in
+    rw pow-succ' (omega (arith, b 0))
+
+-- ---- a turn of each loop
+module _ (l : List ℕ) (k : ℕ) (more : k < length l) where
+  -- the next byte, and those after it
+  pub next : drop k l ≡ getD l k 0 ∷ drop (k + 1) l
+  next = rw (add-one k, drop-cons l k 0)
+
+  -- the byte that is stored is the first of those still to come
+  pub stored : (n x : ℕ) → k < n
+      → take k l ++ digits (n - k) x ≡ take (k + 1) (set l k (x % 256)) ++ digits (n - (k + 1)) (x / 256)
+  stored n x h =
+      let e : n - k ≡ suc (n - (k + 1)) = omega arith in
+      rw (e, add-one k, take-suc-set l k (x % 256)) (sym (append-snoc (take k l) (x % 256) (digits (n - suc k) (x / 256))))
+
+-- ---- there and back
+pub number-digits : (n v : ℕ) → v < 256 ^ n → number (digits n v) ≡ v
+number-digits zero v h = omega arith
+number-digits (suc n) v h =
+    let h : v < 256 * 256 ^ n = rw pow-succ' at h in
+    let r = number-digits n (v / 256) (omega arith) in
+    omega arith
+
+pub digits-number : (l : List ℕ) → Bytes l → digits (length l) (number l) ≡ l
+digits-number [] b = refl
+digits-number (x ∷ l) b =
+    let e : (x + 256 * number l) % 256 ≡ x = omega (arith, b 0) in
+    let f : (x + 256 * number l) / 256 ≡ number l = omega (arith, b 0) in
+    rw (e, f, digits-number l (λ i. b (suc i)))

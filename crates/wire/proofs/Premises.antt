@@ -1,0 +1,135 @@
+-- Laws of premises, in this order: what a verdict tells, premises that come after others, and what the premises of each
+-- function come to by what its code finds out. Assumes nothing.
+use Prim.Native.Nat.{ℕ}
+use mathlib.Core.Path.{_≡_, refl, ap, _∙_, sym}
+use mathlib.Core.Bool.{Bool, true, false, cond, _&&_, and-true}
+use mathlib.Core.List.{List, [], _∷_, _++_}
+use native.Mathlib.Omega.{arith}
+use borrow.Author.Tests.{eq-eqb, ne-eqb}
+use mir.Val.{boolByte}
+use lib.Dec.{eqb}
+use lib.ListN.{length}
+use Rattle.kinds.specs.Limits.{recordSize}
+use Rattle.steps.specs.declared.Refusal.{Refusal}
+use Rattle.steps.specs.declared.Answer.{Answer}
+use Rattle.steps.specs.declared.Verdict.{Verdict}
+use Rattle.steps.specs.declared.Request.{Request}
+use Rattle.steps.specs.Answers.{answerNumber, withdraws, answerValue}
+use Rattle.steps.specs.Premises.{verdict}
+use Rattle.steps.specs.Requests.{isStep, fieldsFit, bucketFits, formal, judged}
+use Rattle.wire.specs.Answers.{lineOf}
+use Rattle.wire.specs.Buffers.{room, answerOf, leaves, putAnswer, putTo}
+use Rattle.wire.specs.Bytes.{blank, part, recordOf}
+use Rattle.wire.specs.Requests.{bytesOf, fieldsOf, readingOf, readOf, orBadField, wroteAnswer, wroteTo}
+use Rattle.wire.specs.declared.Reading.{Reading}
+
+-- ---- what a verdict tells
+-- a request that is read has passed, and a reading that is refused has failed for that reason
+pub read-passed : (p q : Request) (v : Verdict) → readingOf p v ≡ Reading.Request q → (v ≡ Verdict.Passed) × (p ≡ q)
+read-passed p q Verdict.Passed e = (refl, cc)
+read-passed p q (Verdict.Failed why) e = absurd (let z : _≡_ {A = ℕ} 0 1 = cc in omega arith)
+
+pub read-failed : (q : Request) (v : Verdict) (why : Refusal) → readingOf q v ≡ Reading.Refused why → v ≡ Verdict.Failed why
+read-failed q Verdict.Passed why e = absurd (let z : _≡_ {A = ℕ} 0 1 = cc in omega arith)
+read-failed q (Verdict.Failed other) why e = cc
+
+-- the same of an answer
+pub answer-passed : (v : Verdict) → answerOf v ≡ Answer.Accepted → v ≡ Verdict.Passed
+answer-passed Verdict.Passed e = refl
+answer-passed (Verdict.Failed why) e = absurd (let z : _≡_ {A = ℕ} 0 1 = cc in omega arith)
+
+pub answer-failed : (v : Verdict) (why : Refusal) → answerOf v ≡ Answer.Refused why → v ≡ Verdict.Failed why
+answer-failed Verdict.Passed why e = absurd (let z : _≡_ {A = ℕ} 0 1 = cc in omega arith)
+answer-failed (Verdict.Failed other) why e = cc
+
+-- ---- premises that come after others
+-- they decide where those before hold, and are not looked at elsewhere
+pub then-next : (ps qs : List (Refusal × Bool)) → verdict ps ≡ Verdict.Passed → verdict (ps ++ qs) ≡ verdict qs
+then-next [] qs e = refl
+then-next ((why, true) ∷ ps) qs e = then-next ps qs e
+then-next ((why, false) ∷ ps) qs e = absurd (let z : _≡_ {A = ℕ} 0 1 = cc in omega arith)
+
+pub stops-first : (ps qs : List (Refusal × Bool)) (why : Refusal) → verdict ps ≡ Verdict.Failed why → verdict (ps ++ qs) ≡ Verdict.Failed why
+stops-first [] qs why e = absurd (let z : _≡_ {A = ℕ} 0 1 = cc in omega arith)
+stops-first ((first, true) ∷ ps) qs why e = stops-first ps qs why e
+stops-first ((first, false) ∷ ps) qs why e = e
+
+-- where all hold, those before do
+pub holds-before : (ps qs : List (Refusal × Bool)) → verdict (ps ++ qs) ≡ Verdict.Passed → verdict ps ≡ Verdict.Passed
+holds-before [] qs e = refl
+holds-before ((why, true) ∷ ps) qs e = holds-before ps qs e
+holds-before ((why, false) ∷ ps) qs e = e
+
+-- ---- reading a request
+-- numbers 2 to 4, with bytes 3 to 7 beside the fields, and without
+abbrev beside : Bool → Bool → Bool → Bool → Verdict
+beside step fields zeros bucket =
+    verdict ((Refusal.UnknownStep, step) ∷ (Refusal.BadField, fields && zeros) ∷ (Refusal.BadBucket, bucket) ∷ [])
+
+abbrev alone : Bool → Bool → Bool → Verdict
+alone step fields bucket = verdict ((Refusal.UnknownStep, step) ∷ (Refusal.BadField, fields) ∷ (Refusal.BadBucket, bucket) ∷ [])
+
+-- where they aren't zero, only 2 comes before 3
+marked : (s f b : Bool) → beside s f false b ≡ Verdict.Failed (orBadField (alone s f b))
+marked false f b = refl
+marked true false b = refl
+marked true true false = refl
+marked true true true = refl
+
+module _ (l : List ℕ) where
+  abbrev q : Request
+  q = fieldsOf l
+
+  -- what is read, by what the length and bytes 3 to 7 are found to be
+  abbrev reads : Bool → Bool → Reading
+  reads long zeros = readingOf q (cond long (beside (isStep (q .step)) (fieldsFit q) zeros (bucketFits q)) (Verdict.Failed Refusal.NotWhole))
+
+  found : (long zeros : Bool) → eqb (length l) recordSize ≡ long → blank (part 3 8 l) ≡ zeros → readOf l ≡ reads long zeros
+  unfolding readOf
+  found long zeros h z = ap (λ (t : Bool). reads t (blank (part 3 8 l))) h ∙ ap (reads long) z
+
+  pub read-ragged : (length l ≡ recordSize → ⊥) → Reading.Refused Refusal.NotWhole ≡ readOf l
+  read-ragged h = sym (found false (blank (part 3 8 l)) (ne-eqb (length l) recordSize h) refl)
+
+  pub read-fields : length l ≡ recordSize → blank (part 3 8 l) ≡ true → readingOf q (judged q) ≡ readOf l
+  unfolding judged
+  read-fields h z =
+      ap (λ (t : Bool). readingOf q (alone (isStep (q .step)) t (bucketFits q))) (sym (and-true (fieldsFit q)))
+      ∙ sym (found true true (eq-eqb (length l) recordSize h) z)
+
+  pub read-marked : length l ≡ recordSize → blank (part 3 8 l) ≡ false → Reading.Refused (orBadField (judged q)) ≡ readOf l
+  unfolding judged
+  read-marked h z =
+      ap (readingOf q) (sym (marked (isStep (q .step)) (fieldsFit q) (bucketFits q)))
+      ∙ sym (found true false (eq-eqb (length l) recordSize h) z)
+
+-- ---- writing a request
+module _ (q : Request) (l : List ℕ) where
+  -- what the fields are refused for is answered, and the buffer stays
+  pub write-refused : (why : Refusal) → judged q ≡ Verdict.Failed why → (Answer.Refused why ≡ wroteAnswer q l) × (l ≡ wroteTo q l)
+  unfolding judged wroteAnswer wroteTo
+  write-refused why e =
+      let v = stops-first (formal q) (room l ∷ []) why e in
+      (ap answerOf (sym v), ap (λ (w : Verdict). leaves w (bytesOf q) l) (sym v))
+
+  -- where the fields fit, the room decides
+  pub write-granted : (r : Answer) (ys : List ℕ) → judged q ≡ Verdict.Passed
+      → r ≡ putAnswer l → ys ≡ putTo (recordOf (q .step) (q .bucket .0) (q .clean) (q .value)) l
+      → (r ≡ wroteAnswer q l) × (ys ≡ wroteTo q l)
+  unfolding judged wroteAnswer wroteTo bytesOf putAnswer putTo
+  write-granted r ys e f g =
+      let v = then-next (formal q) (room l ∷ []) e in
+      (f ∙ ap answerOf (sym v), g ∙ ap (λ (w : Verdict). leaves w (bytesOf q) l) (sym v))
+
+-- ---- writing an answer
+-- a bool as a number
+mark-is : (t : Bool) → boolByte t ≡ cond t 1 0
+mark-is true = refl
+mark-is false = refl
+
+-- the record of an answer's number, mark and value is its line
+pub write-line : (a : Answer) (l : List ℕ) (number value : ℕ) (mark : Bool) (ys : List ℕ)
+    → number ≡ answerNumber a → mark ≡ withdraws a → value ≡ answerValue a
+    → ys ≡ putTo (recordOf number (boolByte mark) 0 value) l → ys ≡ putTo (lineOf a) l
+unfolding lineOf
+write-line a l number value mark ys n m v e = e ∙ rw (n, m, v, mark-is (withdraws a))

@@ -1,0 +1,35 @@
+-- Laws of a record of sixteen bytes: its length, and that the stores of `put` make it. Assumes nothing.
+use Prim.Native.Nat.{ℕ, _-_, _≤_}
+use mathlib.Core.Path.{_≡_, refl, ap, _∙_}
+use mathlib.Core.List.{List, [], _∷_, _++_}
+use native.Mathlib.Omega.{arith}
+use borrow.Rule.Slice.PartMut.{midOf, putMid, mid-len}
+use lib.ListN.{length, drop, length-append, length-drop}
+use lib.Seq.{sets, sets-eq, length-sets, drop-drop}
+use Rattle.kinds.specs.Limits.{recordSize}
+use Rattle.wire.specs.Bytes.{digits, recordOf}
+
+pub length-record : (a b c v : ℕ) → length (recordOf a b c v) ≡ recordSize
+unfolding recordOf
+length-record a b c v = refl
+
+-- eight stores, and the eight bytes of a value after them
+module _ (a b c : ℕ) (l : List ℕ) where
+  abbrev first : List ℕ
+  first = a ∷ b ∷ c ∷ 0 ∷ 0 ∷ 0 ∷ 0 ∷ 0 ∷ []
+
+  pub stored-length : length (sets l 0 first) ≡ length l
+  stored-length = length-sets l 0 first
+
+  module _ (v : ℕ) (fits : recordSize ≤ length l) (ys : List ℕ) (value : ys ≡ digits (length (midOf 8 (16 - 8) (sets l 0 first))) v) where
+    -- the record, and what stood past it
+    pub put-record : putMid 8 (16 - 8) (sets l 0 first) ys ≡ recordOf a b c v ++ drop recordSize l
+    unfolding recordOf
+    put-record =
+        let eight : length (midOf 8 (16 - 8) (sets l 0 first)) ≡ 8 = mid-len 8 16 (sets l 0 first) (rw stored-length fits) in
+        ap (λ (s : List ℕ). putMid 8 (16 - 8) s ys) (sets-eq first l 0 (omega arith))
+        ∙ ap (λ (z : List ℕ). first ++ (ys ++ z)) (drop-drop 8 8 l)
+        ∙ ap (λ (z : List ℕ). first ++ (z ++ drop recordSize l)) (value ∙ ap (λ (n : ℕ). digits n v) eight)
+
+    pub put-length : length (putMid 8 (16 - 8) (sets l 0 first) ys) ≡ length l
+    put-length = ap length put-record ∙ simp (length-append, length-record, length-drop) (omega arith)

@@ -1,0 +1,39 @@
+-- `wire::put` meets its contract: the refusal by its test, and the record by the law of its stores. Assumes nothing.
+use Prim.Native.Nat.{_<_, _≤_}
+use mathlib.Core.Path.{refl}
+use native.Mathlib.Omega.{arith}
+use lib.ListN.{length, length-set}
+use borrow.Author.Needs.{needs}
+use borrow.Author.Tests.{le-leb, lt-leb}
+use Rattle.kinds.specs.Limits.{recordSize}
+use Rattle.wire.specs.Buffers.{putAnswer, putTo}
+use Rattle.wire.proofs.Records.{stored-length, put-length, put-record}
+use Rattle.wire.proofs.put.Statement.{statement}
+use Rattle.wire.proofs.put.Tie as tie
+
+pub put-spec : {M : Type 1} → statement M
+unfolding putAnswer putTo
+put-spec =
+    tie.close
+    (tie.spec
+    (λ c. let h : length (c .before .before .args .buffer .now) < recordSize = omega arith in simp (lt-leb _ _ h) (refl, refl))
+    (λ c. search needs)
+    (λ c. simp length-set (omega arith))
+    (λ c. simp length-set (omega arith))
+    (λ c. simp length-set (omega arith))
+    (λ c. simp length-set (omega arith))
+    (λ c. simp length-set (omega arith))
+    (λ c. simp length-set (omega arith))
+    (λ c. simp length-set (omega arith))
+    (λ c. let a = c .before .before .args in omega (arith, stored-length (a .first) (a .second) (a .third) (a .buffer .now)))
+    (λ c. let a = c .before .before .args in omega (arith, stored-length (a .first) (a .second) (a .third) (a .buffer .now)))
+    (λ c. let a = c .before .before .args in omega (arith, stored-length (a .first) (a .second) (a .third) (a .buffer .now)))
+    (λ c κs. tt)
+    (λ c.
+    let a = c .before .before .before .before .before .before .args in
+    put-length (a .first) (a .second) (a .third) (a .buffer .now) (a .value) (omega arith) (c .before .before .write-u64 .last .0) (c .before .before .write-u64 .ensures))
+    (λ c.
+    let a = c .before .before .before .before .before .before .args in
+    let h : recordSize ≤ length (a .buffer .now) = omega arith in
+    let stands = put-record (a .first) (a .second) (a .third) (a .buffer .now) (a .value) h (c .before .before .write-u64 .last .0) (c .before .before .write-u64 .ensures) in
+    simp (le-leb _ _ h) (refl, stands)))

@@ -1,0 +1,30 @@
+-- Numbers as bytes, low byte first, and the one form that a request and an answer share: sixteen bytes, of which the first
+-- three are small numbers, five are zero, and eight are a value.
+use Prim.Native.Nat.{ℕ, zero, suc, _+_, _-_, _*_, _/_, _%_}
+use mathlib.Core.Bool.{Bool, true, _&&_}
+use mathlib.Core.List.{List, [], _∷_, _++_}
+use lib.Dec.{eqb}
+use lib.ListN.{take, drop}
+
+-- the number that the bytes say
+abbrev pub number : List ℕ → ℕ
+number [] = 0
+number (b ∷ bs) = b + 256 * number bs
+
+-- the n low bytes of a number
+abbrev pub digits : ℕ → ℕ → List ℕ
+digits zero v = []
+digits (suc n) v = v % 256 ∷ digits n (v / 256)
+
+-- the bytes are all zero
+abbrev pub blank : List ℕ → Bool
+blank [] = true
+blank (b ∷ bs) = eqb b 0 && blank bs
+
+-- the bytes from a place up to another
+abbrev pub part : ℕ → ℕ → List ℕ → List ℕ
+part from to l = take (to - from) (drop from l)
+
+-- a record: bytes 0, 1 and 2, five zeros, and a value in the last eight
+unfoldable pub recordOf : ℕ → ℕ → ℕ → ℕ → List ℕ
+recordOf a b c v = (a ∷ b ∷ c ∷ 0 ∷ 0 ∷ 0 ∷ 0 ∷ 0 ∷ []) ++ digits 8 v

@@ -1,0 +1,4 @@
+pub mod Bytes
+pub mod Buffers
+pub mod Requests
+pub mod Answers

@@ -1,0 +1,68 @@
+-- A request as sixteen bytes, and what reading and writing one answer.
+use Prim.Native.Nat.{ℕ, _<_, _^_}
+use mathlib.Core.Bool.{Bool, cond, _&&_}
+use mathlib.Core.List.{List, [], _∷_, _++_}
+use lib.Dec.{eqb, ltb}
+use lib.ListN.{length, getD}
+use Rattle.kinds.specs.Limits.{recordSize}
+use Rattle.steps.specs.declared.Refusal.{Refusal}
+use Rattle.steps.specs.declared.Request.{Request}
+use Rattle.steps.specs.declared.Answer.{Answer}
+use Rattle.steps.specs.declared.Verdict.{Verdict}
+use Rattle.steps.specs.Answers.{refusalNumber}
+use Rattle.steps.specs.Premises.{verdict}
+use Rattle.steps.specs.Requests.{isStep, fieldsFit, bucketFits, formal}
+use Rattle.wire.specs.Bytes.{number, blank, part, recordOf}
+use Rattle.wire.specs.Buffers.{room, answerOf, leaves}
+use Rattle.wire.specs.declared.Reading.{Reading}
+
+-- byte 0 step, 1 bucket, 2 clean, 3 to 7 zero, 8 to 15 value
+unfoldable pub bytesOf : Request → List ℕ
+bytesOf q = recordOf (q .step) (q .bucket .0) (q .clean) (q .value)
+
+-- the fields are as wide as the code holds them
+pub record InRange (q : Request) : Type 0 where
+  pub step : q .step < 256
+  pub bucket : q .bucket .0 < 256
+  pub clean : q .clean < 256
+  pub value : q .value < 256 ^ 8
+
+-- ---- reading
+-- the fields at their places
+abbrev pub fieldsOf : List ℕ → Request
+fieldsOf l =
+    record { step = getD l 0 0; bucket = record { 0 = getD l 1 0 }; clean = getD l 2 0; value = number (part 8 16 l) }
+
+-- what is asked of the bytes: 12 first, then 2 to 4
+abbrev pub readable : List ℕ → List (Refusal × Bool)
+readable l =
+    (Refusal.NotWhole, eqb (length l) recordSize)
+    ∷ (Refusal.UnknownStep, isStep (fieldsOf l .step))
+    ∷ (Refusal.BadField, fieldsFit (fieldsOf l) && blank (part 3 8 l))
+    ∷ (Refusal.BadBucket, bucketFits (fieldsOf l))
+    ∷ []
+
+-- a refusal gives no request
+abbrev pub readingOf : Request → Verdict → Reading
+readingOf q Verdict.Passed = Reading.Request q
+readingOf q (Verdict.Failed why) = Reading.Refused why
+
+unfoldable pub readOf : List ℕ → Reading
+readOf l = readingOf (fieldsOf l) (verdict (readable l))
+
+-- where bytes 3 to 7 aren't zero: the lower of 3 and what is wrong with the fields
+abbrev pub orBadField : Verdict → Refusal
+orBadField Verdict.Passed = Refusal.BadField
+orBadField (Verdict.Failed why) = cond (ltb (refusalNumber Refusal.BadField) (refusalNumber why)) Refusal.BadField why
+
+-- ---- writing
+-- what is asked of a request and of the buffer that it is written into: 2 to 4, then 14
+abbrev pub writable : Request → List ℕ → List (Refusal × Bool)
+writable q l = formal q ++ room l ∷ []
+
+-- what is answered, and what the buffer holds then
+unfoldable pub wroteAnswer : Request → List ℕ → Answer
+wroteAnswer q l = answerOf (verdict (writable q l))
+
+unfoldable pub wroteTo : Request → List ℕ → List ℕ
+wroteTo q l = leaves (verdict (writable q l)) (bytesOf q) l
