@@ -1,0 +1,32 @@
+-- The worked cases, the exhibits and the flag premises, each one computed test over its whole table. Assumes nothing.
+use Prim.Native.Nat.{ℕ}
+use mathlib.Core.Bool.{Bool, _&&_}
+use lib.Dec.{T}
+use Rattle.readers.specs.Lists.{all}
+use Rattle.readers.specs.Listed.{noReaders, pushed, putAt, removedAt}
+use Rattle.page_record.specs.Pages.{freshPage}
+use Rattle.page_record.specs.Rules.{soundOf, lowestBroken}
+use Rattle.steps.specs.Requests.{judged}
+use Rattle.steps.specs.Decide.{decideOf, soughtOf}
+use Rattle.lock.specs.Step.{stepOf, lookFor, editedIn}
+use Rattle.demands.specs.Cases.{allHold, workedCases, exhibited, flags, shown, holders, refusesRightly, premises}
+
+-- cases A to H of document 01
+pub worked : T (allHold workedCases)
+unfolding stepOf lookFor editedIn judged decideOf soughtOf soundOf lowestBroken noReaders pushed putAt removedAt freshPage
+worked = tt
+
+-- a sound record for each of the eleven flags
+pub flags-exhibited : T (all exhibited flags)
+unfolding stepOf lookFor editedIn judged decideOf soughtOf soundOf lowestBroken noReaders pushed putAt removedAt freshPage
+flags-exhibited = tt
+
+-- a sound record for each kind of holder
+pub holders-exhibited : T (all shown holders)
+unfolding stepOf lookFor editedIn judged decideOf soughtOf soundOf lowestBroken noReaders pushed putAt removedAt freshPage
+holders-exhibited = tt
+
+-- each flag premise refuses under just the flags that document 01 shuts out
+pub flags-refused : T (all refusesRightly premises)
+unfolding stepOf lookFor editedIn judged decideOf soughtOf soundOf lowestBroken noReaders pushed putAt removedAt freshPage
+flags-refused = tt

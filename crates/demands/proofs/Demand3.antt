@@ -1,0 +1,126 @@
+-- Demand 3, proved: the history tells of counts, storage and the values handed out (proofs/Told.antt); soundness carries
+-- storage's value to every holder, and shuts readers and the archive out while the page is out. Assumes nothing.
+use Prim.Native.Nat.{ℕ, _+_, _<_}
+use mathlib.Core.Path.{_≡_, refl, sym, ap, _∙_, subst}
+use mathlib.Core.Bool.{Bool, true, false, not, cond, _&&_, _||_}
+use mathlib.Core.List.{List, []}
+use native.Mathlib.Omega.{arith}
+use lib.Dec.{T, eqb, eqb→eq}
+use lib.ListN.{length, getD}
+use Rattle.kinds.specs.declared.Count.{Count}
+use Rattle.kinds.specs.declared.Phase.{Phase}
+use Rattle.kinds.specs.declared.Reader.{Reader}
+use Rattle.kinds.specs.declared.Storage.{Storage}
+use Rattle.kinds.specs.declared.WritebackState.{WritebackState}
+use Rattle.readers.specs.Listed.{live, blankReader}
+use Rattle.readers.proofs.Lists.{all-at}
+use Rattle.page_record.specs.declared.Head.{Head}
+use Rattle.page_record.specs.declared.Page.{Page}
+use Rattle.page_record.specs.Holders.{isStored, holds, isClaim, isAwait, isPending, isEditing, excVisited, excValue}
+use Rattle.kinds.specs.Limits.{buckets}
+use Rattle.kinds.specs.Numbers.{phaseNumber}
+use Rattle.page_record.specs.Pages.{headOf, freshPage}
+use Rattle.page_record.specs.Rules.{soundOf, phaseValid}
+use Rattle.page_record.specs.Facts.{Sound, headSound}
+use Rattle.page_record.specs.Shapes.{Shape, unmapped, waiting, counted, loaded, available, claimed, writeback, writebackClaimed, writebackAwait, await, pending, editing, headAt, valid}
+use Rattle.page_record.proofs.Shapes.{by-shape, is-holding}
+use Rattle.page_record.proofs.Known.{passing, holding, hold-iff, valid-phase, readerPending, listed-valid, closed-pending}
+use Rattle.steps.specs.declared.Request.{Request}
+use Rattle.demands.specs.History.{Event, after, history, lastPut, lastWithdrew}
+use Rattle.demands.specs.Demand3.{Listed, Demand3}
+use Rattle.page_record.proofs.FreshPage.{fresh-sound}
+use Rattle.page_record.proofs.Tested.{facts}
+use Rattle.demands.proofs.Told.{Told, sound-after, tells, fresh-told}
+
+-- ---- what a sound head says of values, by its shape
+record Values (h : Head) : Type 0 where
+  claimant : T (isClaim (h .«exc_state») || isAwait (h .«exc_state») || isPending (h .«exc_state»)) → h .storage ≡ Storage.In (excValue (h .«exc_state»))
+  archive : (v : ℕ) → h .«writeback_state» ≡ WritebackState.Held v → h .storage ≡ Storage.In v
+
+clash : {A : Type 0} (v : ℕ) → WritebackState.None ≡ WritebackState.Held v → A
+clash v e = absurd (let z : _≡_ {A = ℕ} 0 1 = cc in omega arith)
+
+values-at : (z : Shape) (cs : List Count) → T (valid z) → Values (headAt z cs)
+values-at (unmapped x) cs t = record { claimant = λ k. absurd k; archive = λ v. clash v }
+values-at waiting cs t = record { claimant = λ k. absurd k; archive = λ v. clash v }
+values-at (counted b) cs t = record { claimant = λ k. absurd k; archive = λ v. clash v }
+values-at (loaded m) cs t = record { claimant = λ k. absurd k; archive = λ v. clash v }
+values-at (available x) cs t = record { claimant = λ k. absurd k; archive = λ v. clash v }
+values-at (claimed m x) cs t = record { claimant = λ k. refl; archive = λ v. clash v }
+values-at (writeback x) cs t = record { claimant = λ k. absurd k; archive = λ v e. cc }
+values-at (writebackClaimed m x) cs t = record { claimant = λ k. refl; archive = λ v e. cc }
+values-at (writebackAwait m x) cs t = record { claimant = λ k. refl; archive = λ v e. cc }
+values-at (await m x) cs t = record { claimant = λ k. refl; archive = λ v. clash v }
+values-at (pending m n c x) cs t = record { claimant = λ k. refl; archive = λ v. clash v }
+values-at (editing m c) cs t = record { claimant = λ k. absurd k; archive = λ v. clash v }
+
+or-left : (a b : Bool) → T a → T (a || b)
+or-left true b t = tt
+or-left false b t = absurd t
+
+first-is : (phase : Phase) → T (eqb (phaseNumber phase) 1) → phase ≡ Phase.Pending
+first-is Phase.Pending t = refl
+first-is Phase.Pending2 t = absurd t
+first-is (Phase.Obtained v) t = absurd t
+
+-- ---- the demand, from soundness and what is told
+module _ (fresh : ℕ) (p : Page) (past : List Event) (s : Sound (headOf p) (live (p .readers))) (told : Told fresh (headOf p) past) where
+  abbrev h : Head
+  h = headOf p
+
+  values : Values h
+  values = by-shape Values values-at h (s .head)
+
+  put-in : (v : ℕ) → p .storage ≡ Storage.In v → v ≡ lastPut fresh past
+  put-in v e = go (lastWithdrew past) (sym e ∙ told .stored)
+    where
+      go : (t : Bool) → Storage.In v ≡ cond t Storage.Out (Storage.In (lastPut fresh past)) → v ≡ lastPut fresh past
+      go true f = absurd (let z : _≡_ {A = ℕ} 0 1 = cc in omega arith)
+      go false f = cc
+
+  out-is : isStored (p .storage) ≡ not (lastWithdrew past)
+  out-is = ap isStored (told .stored) ∙ go (lastWithdrew past)
+    where
+      go : (t : Bool) → isStored (cond t Storage.Out (Storage.In (lastPut fresh past))) ≡ not t
+      go true = refl
+      go false = refl
+
+  -- a reader that has come through holds storage's value
+  reads : (r : Reader) → Listed p r → (v : ℕ) → r .phase ≡ Phase.Obtained v → p .storage ≡ Storage.In v
+  reads r at v e =
+      let valid = valid-phase h r (rw (at .stands) at (listed-valid s (at .place) (at .below))) in
+      is-holding (p .storage) v (hold-iff h (r .bucket .0) v .0 (rw e at valid) .0)
+
+  apart : (v : ℕ) → p .storage ≡ Storage.Out → p .storage ≡ Storage.In v → ⊥
+  apart v o e = let z : _≡_ {A = ℕ} 0 1 = cc in omega arith
+
+  idle : (w : WritebackState) → p .«writeback_state» ≡ w → p .storage ≡ Storage.Out → w ≡ WritebackState.None
+  idle WritebackState.None e o = refl
+  idle (WritebackState.Held v) e o = absurd (apart v o (values .archive v e))
+
+  shut : (r : Reader) → Listed p r → T (isEditing (p .«exc_state»)) → T (readerPending r)
+  shut r at t =
+      let l = live (p .readers) in
+      rw (at .stands) at (all-at readerPending l (at .place) blankReader (closed-pending s (or-left (isEditing (p .«exc_state»)) (isPending (p .«exc_state») && eqb (excVisited (p .«exc_state») .0) buckets) t)) (at .below))
+
+  pub demanded : Demand3 fresh p past
+  demanded = record {
+    counted = λ b k. told .balance b;
+    referred = s .counts;
+    out = out-is;
+    stored = put-in;
+    read = λ r at v e. put-in v (reads r at v e);
+    claimed = λ t. put-in (excValue (p .«exc_state»)) (values .claimant t);
+    written = λ v e. put-in v (values .archive v e);
+    returned = told .handed;
+    unread = λ o r at v e. apart v o (reads r at v e);
+    unwritten = idle (p .«writeback_state») refl;
+    alone = λ t r at. first-is (r .phase) (shut r at t);
+  }
+
+-- ---- from a fresh page, after any requests
+pub demand3 : (fresh : ℕ) (qs : List Request) → Demand3 fresh (after (freshPage fresh) qs) (history (freshPage fresh) qs [])
+demand3 fresh qs =
+    let p = freshPage fresh in
+    let sound = fresh-sound fresh in
+    demanded fresh (after p qs) (history p qs []) (facts (after p qs) (sound-after p qs sound) .parts) (tells fresh p [] qs sound (fresh-told fresh))

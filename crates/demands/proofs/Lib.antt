@@ -1,0 +1,3 @@
+pub mod Told
+pub mod Demand3
+pub mod Cases

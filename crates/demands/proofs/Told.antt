@@ -1,0 +1,288 @@
+-- What the history tells of a page, step by step: counts, storage, the loader's bucket, and the values handed out. Each step
+-- keeps it (one entry for each number), a refusal changes neither page nor history's sums, so it holds after any requests.
+-- Assumes nothing.
+use Prim.Native.Nat.{ℕ, zero, suc, _+_, _-_, _≤_, _<_}
+use mathlib.Core.Path.{_≡_, refl, sym, ap, _∙_, subst}
+use mathlib.Core.Bool.{Bool, true, false, not, cond, _&&_, _||_}
+use mathlib.Core.List.{List, [], _∷_}
+use native.Mathlib.Omega.{arith}
+use lib.Dec.{T, eqb, leb, ltb→lt}
+use lib.ListN.{length, replicate}
+use borrow.Author.Tests.{eq-eqb}
+use Rattle.kinds.specs.Limits.{buckets, capacity}
+use Rattle.kinds.specs.declared.Bucket.{Bucket}
+use Rattle.kinds.specs.declared.Count.{Count}
+use Rattle.kinds.specs.declared.Storage.{Storage}
+use Rattle.kinds.specs.declared.MaybeBucket.{MaybeBucket}
+use Rattle.kinds.specs.declared.LoadingState.{LoadingState}
+use Rattle.kinds.specs.declared.Reader.{Reader}
+use Rattle.page_record.specs.declared.Head.{Head}
+use Rattle.page_record.specs.Holders.{hasBucket, validBucket, bucketOf, loadingBucket, valueOf, excValue}
+use Rattle.page_record.specs.Pages.{numberAt}
+use Rattle.page_record.specs.References.{refAt}
+use Rattle.page_record.specs.Facts.{Sound}
+use Rattle.lock.proofs.Counts.{number-raise, number-lower}
+use Rattle.lock.proofs.MoveFacts.{granted}
+use Rattle.steps.specs.Setters.{raise, lower}
+use Rattle.steps.specs.declared.Request.{Request}
+use Rattle.steps.specs.declared.Answer.{Answer}
+use Rattle.steps.specs.declared.Verdict.{Verdict}
+use Rattle.steps.specs.Premises.{Step, Passes, verdict, settled}
+use Rattle.steps.specs.Requests.{formal, judged}
+use Rattle.steps.specs.Decide.{stepAt, soughtOf, decideOf}
+use Rattle.readers.specs.Listed.{live}
+use Rattle.page_record.specs.declared.Page.{Page}
+use Rattle.page_record.specs.Pages.{headOf, freshPage}
+use Rattle.page_record.specs.Rules.{soundOf}
+use Rattle.page_record.proofs.Tested.{facts}
+use Rattle.readers.proofs.Tests.{to-true}
+use Rattle.lock.specs.Step.{lookFor, stepped, stepOf}
+use Rattle.lock.proofs.Pick.{Below, _&_, pick}
+use Rattle.lock.proofs.Passes.{passes-of, judged-bucket}
+use Rattle.lock.proofs.Least.{step-below}
+use Rattle.lock.proofs.Keeps.{step-keeps}
+use Rattle.steps.specs.declared.Refusal.{Refusal}
+use Rattle.steps.specs.Answers.{refusalNumber}
+use Rattle.steps.specs.Steps.{isFound, reader}
+use Rattle.readers.specs.declared.Found.{Found}
+use Rattle.readers.specs.Listed.{findIn}
+use Rattle.readers.proofs.First.{found}
+use Rattle.kinds.specs.declared.Phase.{Phase}
+use Rattle.page_record.proofs.Known.{known, listed-counted}
+use Rattle.demands.specs.History.{Event, event, after, history, arrivals, departures, lastPut, lastWithdrew, lastCounted, HandedOut}
+
+-- ---- what is told
+pub record Told (fresh : ℕ) (h : Head) (past : List Event) : Type 0 where
+  pub balance : (b : ℕ) → numberAt (h .«ref_counts») b + departures b past ≡ arrivals b past
+  pub stored : h .storage ≡ cond (lastWithdrew past) Storage.Out (Storage.In (lastPut fresh past))
+  pub counted : T (hasBucket (loadingBucket (h .«loading_state»))) → lastCounted past ≡ loadingBucket (h .«loading_state»)
+  pub handed : HandedOut fresh past
+
+-- ---- each step
+module _ (fresh : ℕ) (h : Head) (l : List Reader) (b : Bucket) (clean value : ℕ) (full : Bool) (past : List Event) (s : Sound h l) (inside : b .0 < buckets) (told : Told fresh h past) where
+  abbrev ask : ℕ → Request
+  ask n = record { step = n; bucket = b; clean = clean; value = value }
+
+  abbrev stepNo : ℕ → Step
+  stepNo n = stepAt h (ask n) (lookFor l (soughtOf (ask n))) full
+
+  abbrev Entry : ℕ → Type 0
+  Entry n = Passes (stepNo n .premises) → Told fresh (stepNo n .head) (record { request = ask n; answer = stepNo n .answer } ∷ past)
+
+  within : b .0 < length (h .«ref_counts»)
+  within = omega (arith, s .four)
+
+  raised-balance : (x : ℕ) → numberAt (raise (b .0) (h .«ref_counts»)) x + departures x past ≡ cond (eqb (b .0) x) 1 0 + arrivals x past
+  raised-balance x = omega (arith, number-raise (h .«ref_counts») (b .0) x within, told .balance x)
+
+  lowered-balance : 1 ≤ numberAt (h .«ref_counts») (b .0) → (x : ℕ) → numberAt (lower (b .0) (h .«ref_counts»)) x + (cond (eqb (b .0) x) 1 0 + departures x past) ≡ arrivals x past
+  lowered-balance k x = omega (arith, number-lower (h .«ref_counts») (b .0) x within k, told .balance x)
+
+  -- a reader that is found is counted
+  found-counted : (phase : Phase) → T (isFound (findIn l (reader phase b))) → 1 ≤ numberAt (h .«ref_counts») (b .0)
+  found-counted phase t = go (findIn l (reader phase b)) refl t
+    where
+      go : (f : Found) → findIn l (reader phase b) ≡ f → T (isFound f) → 1 ≤ numberAt (h .«ref_counts») (b .0)
+      go (Found.At i) e t =
+          let f = found (reader phase b) l i e in
+          rw (f .equal) at (listed-counted s i (f .inside))
+      go Found.Nowhere e t = absurd t
+
+  -- a withdrawal hands out what was last put in
+  put-in : (v : ℕ) → h .storage ≡ Storage.In v → v ≡ lastPut fresh past
+  put-in v e = go (lastWithdrew past) (sym e ∙ told .stored)
+    where
+      go : (t : Bool) → Storage.In v ≡ cond t Storage.Out (Storage.In (lastPut fresh past)) → v ≡ lastPut fresh past
+      go true f = absurd (let z : _≡_ {A = ℕ} 0 1 = cc in omega arith)
+      go false f = cc
+
+  -- no count changes, nothing is handed out
+  even : (x : ℕ) → numberAt (h .«ref_counts») x + (0 + 0 + departures x past) ≡ 0 + arrivals x past
+  even x = omega (arith, told .balance x)
+
+  none-out : {A : Type 0} → (⊥ → A) × HandedOut fresh past
+  none-out = (λ t. absurd t, told .handed)
+
+  told1 : Entry 1
+  told1 t = record { balance = even; stored = told .stored; counted = told .counted; handed = none-out }
+
+  told2 : Entry 2
+  told2 t = record { balance = even; stored = told .stored; counted = told .counted; handed = none-out }
+
+  told3 : Entry 3
+  told3 t = record { balance = even; stored = told .stored; counted = told .counted; handed = none-out }
+
+  told4 : Entry 4
+  told4 t = record { balance = even; stored = told .stored; counted = told .counted; handed = none-out }
+
+  told5 : Entry 5
+  told5 t = record { balance = even; stored = told .stored; counted = told .counted; handed = none-out }
+
+  told6 : Entry 6
+  told6 t = record { balance = even; stored = told .stored; counted = told .counted; handed = none-out }
+
+  told7 : Entry 7
+  told7 t = record { balance = even; stored = told .stored; counted = told .counted; handed = none-out }
+
+  told8 : Entry 8
+  told8 t = record { balance = even; stored = refl; counted = told .counted; handed = (λ w. put-in (excValue (h .«exc_state»)) (known s .pending-in (t .0)), told .handed) }
+
+  told9 : Entry 9
+  told9 t = record { balance = even; stored = refl; counted = told .counted; handed = none-out }
+
+  told10 : Entry 10
+  told10 t = record { balance = even; stored = refl; counted = told .counted; handed = none-out }
+
+  told11 : Entry 11
+  told11 t = record { balance = even; stored = refl; counted = λ w. absurd w; handed = (λ w. put-in (valueOf (h .storage)) (known s .unmapped-in (t .0)), told .handed) }
+
+  told12 : Entry 12
+  told12 t = record { balance = even; stored = refl; counted = λ w. absurd w; handed = (λ w. put-in (valueOf (h .storage)) (known s .unmapped-in (t .0)), told .handed) }
+
+  told13 : Entry 13
+  told13 t = record { balance = λ x. omega (arith, raised-balance x); stored = told .stored; counted = λ w. refl; handed = none-out }
+
+  told14 : Entry 14
+  told14 t = record { balance = even; stored = told .stored; counted = told .counted; handed = none-out }
+
+  told15 : Entry 15
+  told15 t = record { balance = even; stored = told .stored; counted = λ w. absurd w; handed = none-out }
+
+  told16 : Entry 16
+  told16 t = record { balance = even; stored = refl; counted = λ w. absurd w; handed = none-out }
+
+  -- the loader's bucket is the one that the latest 13 named, and it is counted there
+  left-balance : (m : MaybeBucket) → loadingBucket (h .«loading_state») ≡ m → lastCounted past ≡ m → T (hasBucket m) → T (validBucket m) → (x : ℕ)
+      → numberAt (lower (bucketOf m .0) (h .«ref_counts»)) x + (refAt (lastCounted past) x + departures x past) ≡ arrivals x past
+  left-balance MaybeBucket.None e f k v x = absurd k
+  left-balance (MaybeBucket.At a) e f k v x =
+      let inside : a .0 < buckets = ltb→lt (a .0) buckets v in
+      let j : a .0 < length (h .«ref_counts») = omega (arith, s .four) in
+      let here : refAt (loadingBucket (h .«loading_state»)) (a .0) ≡ 1 = rw e (simp (eq-eqb (a .0) (a .0) refl)) in
+      let some : 1 ≤ numberAt (h .«ref_counts») (a .0) = omega (arith, s .counts (a .0) inside) in
+      rw f (omega (arith, number-lower (h .«ref_counts») (a .0) x j some, told .balance x))
+
+  told17 : Entry 17
+  told17 t =
+      let m = loadingBucket (h .«loading_state») in
+      let v = granted h (s .head) .loaded (t .0) .1 in
+      record {
+        balance = λ x. omega (arith, left-balance m refl (told .counted (t .1 .0)) (t .1 .0) v x);
+        stored = refl;
+        counted = λ w. absurd w;
+        handed = none-out;
+      }
+
+  told18 : Entry 18
+  told18 t = record { balance = λ x. omega (arith, raised-balance x); stored = told .stored; counted = told .counted; handed = none-out }
+
+  told19 : Entry 19
+  told19 t = record { balance = λ x. omega (arith, raised-balance x); stored = told .stored; counted = told .counted; handed = none-out }
+
+  told20 : Entry 20
+  unfolding lookFor soughtOf
+  told20 t = record { balance = λ x. omega (arith, lowered-balance (found-counted Phase.Pending (t .0)) x); stored = told .stored; counted = told .counted; handed = none-out }
+
+  told21 : Entry 21
+  unfolding lookFor soughtOf
+  told21 t = record { balance = λ x. omega (arith, lowered-balance (found-counted Phase.Pending2 (t .0)) x); stored = told .stored; counted = told .counted; handed = none-out }
+
+  told22 : Entry 22
+  unfolding lookFor soughtOf
+  told22 t = record { balance = λ x. omega (arith, lowered-balance (found-counted (Phase.Obtained value) (t .0)) x); stored = told .stored; counted = told .counted; handed = none-out }
+
+  told23 : Entry 23
+  told23 t = record { balance = even; stored = told .stored; counted = told .counted; handed = none-out }
+
+  told24 : Entry 24
+  told24 t = record { balance = even; stored = told .stored; counted = told .counted; handed = none-out }
+
+  entries : Below 25 Entry
+  entries =
+      (λ t. absurd (t .0))
+      & told1 & told2 & told3 & told4 & told5 & told6 & told7 & told8
+      & told9 & told10 & told11 & told12 & told13 & told14 & told15 & told16
+      & told17 & told18 & told19 & told20 & told21 & told22 & told23 & told24
+      & tt
+
+-- ---- one request
+-- a refusal has a number of its own, so the history's sums do not see it
+refusal-number : (why : Refusal) → eqb (refusalNumber why) 0 ≡ false
+refusal-number Refusal.Unsound = refl
+refusal-number Refusal.UnknownStep = refl
+refusal-number Refusal.BadField = refl
+refusal-number Refusal.BadBucket = refl
+refusal-number Refusal.WrongFlag = refl
+refusal-number Refusal.NoHolder = refl
+refusal-number Refusal.WrongBucket = refl
+refusal-number Refusal.WrongVisited = refl
+refusal-number Refusal.OtherCount = refl
+refusal-number Refusal.AtCeiling = refl
+refusal-number Refusal.ListFull = refl
+refusal-number Refusal.NotWhole = refl
+refusal-number Refusal.TooMany = refl
+refusal-number Refusal.NoRoom = refl
+
+refused-tells : (fresh : ℕ) (h : Head) (past : List Event) (q : Request) (why : Refusal) → Told fresh h past → Told fresh h (record { request = q; answer = Answer.Refused why } ∷ past)
+refused-tells fresh h past q why told =
+    record {
+      balance = λ x. rw (refusal-number why) (omega (arith, told .balance x));
+      stored = rw (refusal-number why) (told .stored);
+      counted = λ t. rw (refusal-number why) (told .counted t);
+      handed = (λ t. absurd t, told .handed);
+    }
+
+module _ (fresh : ℕ) (p : Page) (q : Request) (past : List Event) where
+  abbrev st : Step
+  st = stepAt (headOf p) q (lookFor (live (p .readers)) (soughtOf q)) (leb capacity (p .readers .len))
+
+  -- a request that is judged well formed
+  decided-tells : Sound (headOf p) (live (p .readers)) → judged q ≡ Verdict.Passed → Told fresh (headOf p) past
+      → Told fresh (headOf (stepped p q Verdict.Passed .page)) (record { request = q; answer = stepped p q Verdict.Passed .answer } ∷ past)
+  unfolding decideOf judged
+  decided-tells sound formed told = go (verdict (st .premises)) refl
+    where
+      go : (v : Verdict) → verdict (st .premises) ≡ v
+          → Told fresh (settled (headOf p) st v .head) (record { request = q; answer = settled (headOf p) st v .answer } ∷ past)
+      go Verdict.Passed f =
+          let l = live (p .readers) in
+          let full = leb capacity (p .readers .len) in
+          let inside = judged-bucket q formed in
+          let known = passes-of (formal q) formed .0 in
+          pick 25 (Entry fresh (headOf p) l (q .bucket) (q .clean) (q .value) full past sound inside told)
+          (entries fresh (headOf p) l (q .bucket) (q .clean) (q .value) full past sound inside told)
+          (q .step) (step-below (q .step) known)
+          (passes-of (st .premises) f)
+      go (Verdict.Failed why) f = refused-tells fresh (headOf p) past q why told
+
+  -- any request on a sound page
+  step-tells : T (soundOf p) → Told fresh (headOf p) past → Told fresh (headOf (stepOf p q .page)) (event p q ∷ past)
+  unfolding stepOf
+  step-tells sound told = rw (to-true (soundOf p) sound) (go (judged q) refl)
+    where
+      go : (v : Verdict) → judged q ≡ v → Told fresh (headOf (stepped p q v .page)) (record { request = q; answer = stepped p q v .answer } ∷ past)
+      go Verdict.Passed e = decided-tells (facts p sound .parts) e told
+      go (Verdict.Failed why) e = refused-tells fresh (headOf p) past q why told
+
+-- ---- any requests
+pub sound-after : (p : Page) (qs : List Request) → T (soundOf p) → T (soundOf (after p qs))
+sound-after p [] sound = sound
+sound-after p (q ∷ qs) sound = sound-after (stepOf p q .page) qs (step-keeps p q sound)
+
+pub tells : (fresh : ℕ) (p : Page) (past : List Event) (qs : List Request) → T (soundOf p) → Told fresh (headOf p) past
+    → Told fresh (headOf (after p qs)) (history p qs past)
+tells fresh p past [] sound told = told
+tells fresh p past (q ∷ qs) sound told =
+    tells fresh (stepOf p q .page) (event p q ∷ past) qs (step-keeps p q sound) (step-tells fresh p q past sound told)
+
+-- a fresh page: nothing has happened
+pub fresh-told : (fresh : ℕ) → Told fresh (headOf (freshPage fresh)) []
+unfolding freshPage
+fresh-told fresh = record { balance = none; stored = refl; counted = λ t. absurd t; handed = tt }
+  where
+    none : (b : ℕ) → numberAt (replicate buckets (record { 0 = 0 })) b + 0 ≡ 0
+    none zero = refl
+    none (suc zero) = refl
+    none (suc (suc zero)) = refl
+    none (suc (suc (suc zero))) = refl
+    none (suc (suc (suc (suc b)))) = refl

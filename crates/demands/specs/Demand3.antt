@@ -1,0 +1,49 @@
+-- Demand 3: what holds of a page after any requests, refused ones among them, from a fresh page of a given value.
+-- "Past the first check" means Pending2 or Obtained: a reader that is not past it is Pending.
+use Prim.Native.Nat.{ℕ, _+_, _<_}
+use mathlib.Core.Path.{_≡_}
+use mathlib.Core.Bool.{Bool, true, false, not, _||_}
+use mathlib.Core.List.{List}
+use lib.Dec.{T}
+use lib.ListN.{length, getD}
+use Rattle.kinds.specs.Limits.{buckets}
+use Rattle.kinds.specs.declared.Phase.{Phase}
+use Rattle.kinds.specs.declared.Reader.{Reader}
+use Rattle.kinds.specs.declared.Storage.{Storage}
+use Rattle.kinds.specs.declared.WritebackState.{WritebackState}
+use Rattle.readers.specs.Listed.{live, blankReader}
+use Rattle.page_record.specs.declared.Page.{Page}
+use Rattle.page_record.specs.Holders.{isStored, isClaim, isAwait, isPending, isEditing, excValue}
+use Rattle.page_record.specs.Pages.{numberAt}
+use Rattle.page_record.specs.References.{countAllRefs}
+use Rattle.demands.specs.History.{Event, arrivals, departures, lastPut, lastWithdrew, HandedOut}
+
+-- a listed reader: it stands at a place below the length
+pub record Listed (p : Page) (r : Reader) : Type 0 where
+  pub place : ℕ
+  pub below : place < length (live (p .readers))
+  pub stands : getD (live (p .readers)) place blankReader ≡ r
+
+pub record Demand3 (fresh : ℕ) (p : Page) (past : List Event) : Type 0 where
+  -- each bucket's count is its accepted arrivals less departures ..
+  pub counted : (b : ℕ) → b < buckets → numberAt (p .«ref_counts») b + departures b past ≡ arrivals b past
+  -- .. and the references held there
+  pub referred : (b : ℕ) → b < buckets → numberAt (p .«ref_counts») b ≡ countAllRefs (live (p .readers)) (p .«exc_state») (p .«loading_state») b
+  -- the page is out exactly when its last hand-over was a withdrawal
+  pub out : isStored (p .storage) ≡ not (lastWithdrew past)
+  -- every value held is the one last put in, or the fresh one: by storage,
+  pub stored : (v : ℕ) → p .storage ≡ Storage.In v → v ≡ lastPut fresh past
+  -- by a reader that has come through,
+  pub read : (r : Reader) → Listed p r → (v : ℕ) → r .phase ≡ Phase.Obtained v → v ≡ lastPut fresh past
+  -- by a claimant (Claim, PendingAwaitWriteback, Pending),
+  pub claimed : T (isClaim (p .«exc_state») || isAwait (p .«exc_state») || isPending (p .«exc_state»)) → excValue (p .«exc_state») ≡ lastPut fresh past
+  -- by the writeback;
+  pub written : (v : ℕ) → p .«writeback_state» ≡ WritebackState.Held v → v ≡ lastPut fresh past
+  -- and so is every value that was returned, at its moment
+  pub returned : HandedOut fresh past
+  -- while the page is out nobody reads it,
+  pub unread : p .storage ≡ Storage.Out → (r : Reader) → Listed p r → (v : ℕ) → r .phase ≡ Phase.Obtained v → ⊥
+  -- or writes it back,
+  pub unwritten : p .storage ≡ Storage.Out → p .«writeback_state» ≡ WritebackState.None
+  -- and once an editor has it out no reader is past the first check
+  pub alone : T (isEditing (p .«exc_state»)) → (r : Reader) → Listed p r → r .phase ≡ Phase.Pending

@@ -1,0 +1,78 @@
+-- What happened to a page, and what can be told from it: document 01's "History, for demand 3", word by word. A history is
+-- the list of requests with the answers that were given, the newest first, so that "the latest" is the first one found.
+use Prim.Native.Nat.{ℕ, _+_}
+use mathlib.Core.Path.{_≡_}
+use mathlib.Core.Bool.{Bool, true, false, cond, _&&_, _||_}
+use mathlib.Core.List.{List, [], _∷_}
+use lib.Dec.{T, eqb}
+use Rattle.kinds.specs.declared.MaybeBucket.{MaybeBucket}
+use Rattle.page_record.specs.declared.Page.{Page}
+use Rattle.page_record.specs.References.{refAt}
+use Rattle.steps.specs.declared.Request.{Request}
+use Rattle.steps.specs.declared.Answer.{Answer}
+use Rattle.steps.specs.Answers.{answerNumber, answerValue, withdraws}
+use Rattle.lock.specs.Words.{among}
+use Rattle.lock.specs.Step.{stepOf}
+
+-- a request and its answer
+pub record Event : Type 0 where
+  pub request : Request
+  pub answer : Answer
+
+-- what a request adds to the history
+abbrev pub event : Page → Request → Event
+event p q = record { request = q; answer = stepOf p q .answer }
+
+-- ---- requests one after the other, refused ones among them
+-- the page that they leave
+abbrev pub after : Page → List Request → Page
+after p [] = p
+after p (q ∷ qs) = after (stepOf p q .page) qs
+
+-- the history that they make of an earlier one
+abbrev pub history : Page → List Request → List Event → List Event
+history p [] past = past
+history p (q ∷ qs) past = history (stepOf p q .page) qs (event p q ∷ past)
+
+-- ---- document 01's words
+-- an accepted request for one of these steps
+abbrev pub accepted : List ℕ → Event → Bool
+accepted steps e = eqb (answerNumber (e .answer)) 0 && among steps (e .request .step)
+
+-- it names bucket b
+abbrev pub names : ℕ → Event → Bool
+names b e = eqb (e .request .bucket .0) b
+
+-- the bucket that the latest accepted 13 named
+abbrev pub lastCounted : List Event → MaybeBucket
+lastCounted [] = MaybeBucket.None
+lastCounted (e ∷ past) = cond (accepted (13 ∷ []) e) (MaybeBucket.At (e .request .bucket)) (lastCounted past)
+
+-- arrivals at b: accepted 13, 18 and 19 naming b
+abbrev pub arrivals : ℕ → List Event → ℕ
+arrivals b [] = 0
+arrivals b (e ∷ past) = cond (accepted (13 ∷ 18 ∷ 19 ∷ []) e && names b e) 1 0 + arrivals b past
+
+-- departures from b: accepted 20, 21, 22 naming b, and accepted 17 where the latest accepted 13 named b
+abbrev pub departures : ℕ → List Event → ℕ
+departures b [] = 0
+departures b (e ∷ past) =
+    cond (accepted (20 ∷ 21 ∷ 22 ∷ []) e && names b e) 1 0
+    + cond (accepted (17 ∷ []) e) (refAt (lastCounted past) b) 0
+    + departures b past
+
+-- the last value put in: of the latest accepted 9, 10, 16 or 17, else the fresh value
+abbrev pub lastPut : ℕ → List Event → ℕ
+lastPut fresh [] = fresh
+lastPut fresh (e ∷ past) = cond (accepted (9 ∷ 10 ∷ 16 ∷ 17 ∷ []) e) (e .request .value) (lastPut fresh past)
+
+-- hand-overs are those four and 8, 11, 12: whether the last one was a withdrawal
+abbrev pub lastWithdrew : List Event → Bool
+lastWithdrew [] = false
+lastWithdrew (e ∷ past) =
+    cond (accepted (8 ∷ 11 ∷ 12 ∷ []) e) true (cond (accepted (9 ∷ 10 ∷ 16 ∷ 17 ∷ []) e) false (lastWithdrew past))
+
+-- every value that was handed out was the one last put in at that moment
+abbrev pub HandedOut : ℕ → List Event → Type 0
+HandedOut fresh [] = Unit {0}
+HandedOut fresh (e ∷ past) = (T (withdraws (e .answer)) → answerValue (e .answer) ≡ lastPut fresh past) × HandedOut fresh past

@@ -1,0 +1,3 @@
+pub mod History
+pub mod Demand3
+pub mod Cases
