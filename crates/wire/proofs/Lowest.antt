@@ -1,5 +1,5 @@
 -- The lowest number that applies is given, and none is given otherwise; where one request is read, 12 comes first. One
--- induction over lists of premises, cited for reading and for writing. Assumes nothing.
+-- induction over lists of premises, cited for reading and for writing, and by the run above. Assumes nothing.
 use Prim.Native.Nat.{ℕ, _≤_}
 use mathlib.Core.Logic.{_⊎_, inl, inr, ⊎-elim}
 use mathlib.Core.Path.{_≡_, refl, ap}
@@ -35,7 +35,7 @@ abbrev pub readOrder : Refusal → ℕ
 readOrder why = cond (eqb (refusalNumber why) 12) 0 (refusalNumber why)
 
 -- ---- premises that stand in order
-abbrev ordered : (Refusal → ℕ) → ℕ → List (Refusal × Bool) → Bool
+abbrev pub ordered : (Refusal → ℕ) → ℕ → List (Refusal × Bool) → Bool
 ordered order n [] = true
 ordered order n (p ∷ ps) = leb n (order (p .0)) && ordered order (order (p .0)) ps
 
@@ -46,7 +46,7 @@ module _ (order : Refusal → ℕ) where
       let h = leb-true n (order (p .0)) (b .0) in
       ⊎-elim (λ u. omega (arith, ap order (u .0))) (λ u. omega (arith, above (order (p .0)) ps (b .1) other u)) t
 
-  lowest : (n : ℕ) (ps : List (Refusal × Bool)) (why : Refusal) → ordered order n ps ≡ true → verdict ps ≡ Verdict.Failed why → Lowest order ps why
+  pub lowest : (n : ℕ) (ps : List (Refusal × Bool)) (why : Refusal) → ordered order n ps ≡ true → verdict ps ≡ Verdict.Failed why → Lowest order ps why
   lowest n [] why o e = absurd (let z : _≡_ {A = ℕ} 0 1 = cc in omega arith)
   lowest n ((first, true) ∷ ps) why o e =
       let r = lowest (order first) ps why (both (leb n (order first)) (ordered order (order first) ps) o .1) e in
@@ -67,7 +67,7 @@ module _ (order : Refusal → ℕ) where
       }
 
 -- where all hold, no reason applies
-none : (ps : List (Refusal × Bool)) → verdict ps ≡ Verdict.Passed → (why : Refusal) → Applies ps why → ⊥
+pub none : (ps : List (Refusal × Bool)) → verdict ps ≡ Verdict.Passed → (why : Refusal) → Applies ps why → ⊥
 none ((first, true) ∷ ps) e why t = ⊎-elim (λ u. true≢false (u .1)) (none ps e why) t
 none ((first, false) ∷ ps) e why t = let z : _≡_ {A = ℕ} 0 1 = cc in omega arith
 

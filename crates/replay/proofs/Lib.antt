@@ -1,0 +1,6 @@
+pub mod Judged
+pub mod Whole
+pub mod Pages
+pub mod Lines
+pub mod Loop
+pub mod Replies

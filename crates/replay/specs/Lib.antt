@@ -1,0 +1,3 @@
+pub mod Turns
+pub mod Run
+pub mod Reply
