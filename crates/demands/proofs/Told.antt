@@ -223,7 +223,7 @@ refusal-number Refusal.NotWhole = refl
 refusal-number Refusal.TooMany = refl
 refusal-number Refusal.NoRoom = refl
 
-refused-tells : (fresh : ℕ) (h : Head) (past : List Event) (q : Request) (why : Refusal) → Told fresh h past → Told fresh h (record { request = q; answer = Answer.Refused why } ∷ past)
+pub refused-tells : (fresh : ℕ) (h : Head) (past : List Event) (q : Request) (why : Refusal) → Told fresh h past → Told fresh h (record { request = q; answer = Answer.Refused why } ∷ past)
 refused-tells fresh h past q why told =
     record {
       balance = λ x. rw (refusal-number why) (omega (arith, told .balance x));
@@ -256,7 +256,7 @@ module _ (fresh : ℕ) (p : Page) (q : Request) (past : List Event) where
       go (Verdict.Failed why) f = refused-tells fresh (headOf p) past q why told
 
   -- any request on a sound page
-  step-tells : T (soundOf p) → Told fresh (headOf p) past → Told fresh (headOf (stepOf p q .page)) (event p q ∷ past)
+  pub step-tells : T (soundOf p) → Told fresh (headOf p) past → Told fresh (headOf (stepOf p q .page)) (event p q ∷ past)
   unfolding stepOf
   step-tells sound told = rw (to-true (soundOf p) sound) (go (judged q) refl)
     where

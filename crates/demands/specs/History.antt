@@ -3,7 +3,7 @@
 use Prim.Native.Nat.{ℕ, _+_}
 use mathlib.Core.Path.{_≡_}
 use mathlib.Core.Bool.{Bool, true, false, cond, _&&_, _||_}
-use mathlib.Core.List.{List, [], _∷_}
+use mathlib.Core.List.{List, [], _∷_, _++_}
 use lib.Dec.{T, eqb}
 use Rattle.kinds.specs.declared.MaybeBucket.{MaybeBucket}
 use Rattle.page_record.specs.declared.Page.{Page}
@@ -13,6 +13,9 @@ use Rattle.steps.specs.declared.Answer.{Answer}
 use Rattle.steps.specs.Answers.{answerNumber, answerValue, withdraws}
 use Rattle.lock.specs.Words.{among}
 use Rattle.lock.specs.Step.{stepOf}
+use Rattle.wire.specs.Answers.{lineOf}
+use Rattle.wire.specs.Requests.{fieldsOf}
+use Rattle.replay.specs.Turns.{turnOf}
 
 -- a request and its answer
 pub record Event : Type 0 where
@@ -33,6 +36,19 @@ after p (q ∷ qs) = after (stepOf p q .page) qs
 abbrev pub history : Page → List Request → List Event → List Event
 history p [] past = past
 history p (q ∷ qs) past = history (stepOf p q .page) qs (event p q ∷ past)
+
+-- ---- the same for the lines of a run: what cannot be read is a refused request too
+abbrev pub lineEvent : Page → List ℕ → Event
+lineEvent p bytes = record { request = fieldsOf bytes; answer = turnOf p bytes .answer }
+
+abbrev pub runHistory : Page → List (List ℕ) → List Event → List Event
+runHistory p [] past = past
+runHistory p (r ∷ rs) past = runHistory (turnOf p r .page) rs (lineEvent p r ∷ past)
+
+-- the answer lines that a history stands for, the oldest first
+abbrev pub answerLines : List Event → List ℕ
+answerLines [] = []
+answerLines (e ∷ past) = answerLines past ++ lineOf (e .answer)
 
 -- ---- document 01's words
 -- an accepted request for one of these steps
