@@ -1,0 +1,261 @@
+//! Cases A to J, line by line.
+
+use second::kinds::{Answer, BucketId, Flag, Refusal, Request, SharedState, StoredType};
+use second::record::{fresh, sound, Page};
+use second::run::run;
+use second::steps::{step, step_in_place};
+
+/// One request, and what is seen after it.
+struct Line {
+    request: Request,
+    answer: Answer,
+    flag: Flag,
+    counts: [u8; 4],
+    storage: Option<StoredType>,
+}
+
+fn line(
+    request: Request,
+    answer: Answer,
+    flag: Flag,
+    counts: [u8; 4],
+    storage: Option<StoredType>,
+) -> Line {
+    Line {
+        request,
+        answer,
+        flag,
+        counts,
+        storage,
+    }
+}
+
+fn plain(step: u8) -> Request {
+    Request::new(step, 0, 0, 0)
+}
+
+fn at(step: u8, bucket: u8) -> Request {
+    Request::new(step, bucket, 0, 0)
+}
+
+fn with(step: u8, value: StoredType) -> Request {
+    Request::new(step, 0, 0, value)
+}
+
+fn choosing(step: u8, clean: u8) -> Request {
+    Request::new(step, 0, clean, 0)
+}
+
+fn play(mut page: Page, lines: &[Line]) -> Page {
+    for (number, line) in lines.iter().enumerate() {
+        let before = page.clone();
+        let outcome = step(page, &line.request);
+        page = outcome.page;
+        assert_eq!(outcome.answer, line.answer, "answer at {number}");
+        assert_eq!(page.flag, line.flag, "flag at {number}");
+        assert_eq!(page.ref_counts.map(|count| count.0), line.counts);
+        assert_eq!(page.storage, line.storage, "storage at {number}");
+        assert!(sound(&page), "sound at {number}");
+        if line.answer.is_err() {
+            assert_eq!(page, before, "changed at {number}");
+        }
+    }
+    page
+}
+
+fn case_b() -> Page {
+    use Flag::{Available, Loading, LoadingExcLock};
+    let page = play(
+        fresh(0),
+        &[
+            line(plain(11), Ok(Some(0)), LoadingExcLock, [0, 0, 0, 0], None),
+            line(at(13, 2), Ok(None), LoadingExcLock, [0, 0, 1, 0], None),
+            line(plain(14), Ok(None), Loading, [0, 0, 1, 0], None),
+            line(at(19, 1), Ok(None), Loading, [0, 1, 1, 0], None),
+            line(at(23, 1), Ok(None), Loading, [0, 1, 1, 0], None),
+            line(
+                at(24, 1),
+                Err(Refusal::WrongFlag),
+                Loading,
+                [0, 1, 1, 0],
+                None,
+            ),
+            line(with(17, 5), Ok(None), Available, [0, 1, 0, 0], Some(5)),
+            line(at(24, 1), Ok(None), Available, [0, 1, 0, 0], Some(5)),
+        ],
+    );
+    let reader = SharedState::Obtained {
+        bucket: BucketId(1),
+        value: 5,
+    };
+    assert_eq!(page.shared_state, [reader]);
+    page
+}
+
+fn case_c() -> Page {
+    use Flag::{
+        ExcLockDirty, PendingExcLock, Writeback, WritebackAndClaimed, WritebackAndPendingExcLock,
+    };
+    let counts = [0, 1, 0, 0];
+    let refused = Err(Refusal::WrongFlag);
+    let claim = Request::new(4, 1, 0, 5);
+    play(
+        case_b(),
+        &[
+            line(plain(1), Ok(None), Writeback, counts, Some(5)),
+            line(claim, Ok(None), WritebackAndClaimed, counts, Some(5)),
+            line(
+                plain(5),
+                Ok(None),
+                WritebackAndPendingExcLock,
+                counts,
+                Some(5),
+            ),
+            line(
+                choosing(6, 1),
+                refused,
+                WritebackAndPendingExcLock,
+                counts,
+                Some(5),
+            ),
+            line(plain(2), Ok(None), PendingExcLock, counts, Some(5)),
+            line(choosing(6, 0), Ok(None), ExcLockDirty, counts, Some(5)),
+        ],
+    )
+}
+
+fn case_d() -> Page {
+    use Flag::ExcLockDirty as Dirty;
+    let own = [0, 1, 0, 0];
+    let two = [0, 1, 0, 1];
+    let visited = Err(Refusal::WrongVisited);
+    let page = play(
+        case_c(),
+        &[
+            line(plain(7), Ok(None), Dirty, own, Some(5)),
+            line(plain(8), visited, Dirty, own, Some(5)),
+            line(plain(7), Ok(None), Dirty, own, Some(5)),
+            line(at(19, 3), Ok(None), Dirty, two, Some(5)),
+            line(at(23, 3), Err(Refusal::WrongFlag), Dirty, two, Some(5)),
+            line(plain(7), Ok(None), Dirty, two, Some(5)),
+            line(plain(7), Err(Refusal::OtherCount), Dirty, two, Some(5)),
+            line(at(20, 3), Ok(None), Dirty, own, Some(5)),
+            line(plain(7), Ok(None), Dirty, own, Some(5)),
+            line(plain(7), visited, Dirty, own, Some(5)),
+            line(plain(8), Ok(Some(5)), Dirty, own, None),
+        ],
+    );
+    assert!(page.shared_state.is_empty());
+    page
+}
+
+#[test]
+fn a() {
+    let none = [0, 0, 0, 0];
+    let no_bucket = Err(Refusal::HolderBucket);
+    play(
+        fresh(0),
+        &[
+            line(plain(12), Ok(Some(0)), Flag::Loading, none, None),
+            line(with(17, 5), no_bucket, Flag::Loading, none, None),
+        ],
+    );
+}
+
+#[test]
+fn b() {
+    case_b();
+}
+
+#[test]
+fn c() {
+    case_c();
+}
+
+#[test]
+fn d() {
+    case_d();
+}
+
+#[test]
+fn e() {
+    let page = play(
+        case_d(),
+        &[line(
+            with(9, 6),
+            Ok(None),
+            Flag::Available,
+            [0, 1, 0, 0],
+            Some(6),
+        )],
+    );
+    let reader = SharedState::Obtained {
+        bucket: BucketId(1),
+        value: 6,
+    };
+    assert_eq!(page.shared_state, [reader]);
+    assert_eq!(page.exc_state, None);
+}
+
+/// A request on a fresh record that leaves it as it was.
+fn refused(request: Request, refusal: Refusal) {
+    let outcome = step(fresh(0), &request);
+    assert_eq!(outcome.answer, Err(refusal));
+    assert_eq!(outcome.page, fresh(0));
+}
+
+#[test]
+fn f() {
+    refused(at(13, 9), Refusal::BadBucket);
+    refused(at(13, 0), Refusal::NoHolder);
+    refused(at(25, 4), Refusal::UnknownStep);
+    refused(at(1, 1), Refusal::BadField);
+}
+
+#[test]
+fn g() {
+    refused(at(19, 4), Refusal::BadBucket);
+    play(
+        fresh(0),
+        &[line(
+            at(19, 3),
+            Ok(None),
+            Flag::Unmapped,
+            [0, 0, 0, 1],
+            Some(0),
+        )],
+    );
+}
+
+#[test]
+fn h() {
+    refused(at(24, 0), Refusal::NoHolder);
+    refused(plain(2), Refusal::NoHolder);
+}
+
+/// So many accepted readers at each bucket, then the answer to one more at 0.
+fn fill(readers: [u8; 4]) -> Answer {
+    let mut page = fresh(0);
+    for (bucket, number) in (0..).zip(readers) {
+        for _ in 0..number {
+            assert_eq!(step_in_place(&mut page, &at(19, bucket)), Ok(None));
+        }
+    }
+    assert_eq!(page.ref_counts.map(|count| count.0), readers);
+    step_in_place(&mut page, &at(19, 0))
+}
+
+#[test]
+fn i() {
+    assert_eq!(fill([31, 0, 0, 0]), Err(Refusal::CountFull));
+    assert_eq!(fill([16, 16, 16, 16]), Err(Refusal::ListFull));
+    assert_eq!(fill([31, 31, 2, 0]), Err(Refusal::CountFull));
+}
+
+#[test]
+fn j() {
+    let of = |length: usize| run(&mut fresh(0), &vec![0; length], &mut vec![0; length]);
+    assert_eq!(of(2_048 * 16), Ok(()));
+    assert_eq!(of(2_049 * 16), Err(Refusal::TooMany));
+    assert_eq!(of(15), Err(Refusal::NotWhole));
+}

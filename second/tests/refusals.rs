@@ -1,0 +1,442 @@
+//! Every refusal of a step, and that the lowest number is the one given.
+
+use second::kinds::{
+    answer_number, Answer, BucketId, ExcState, Flag, LoadingState, Refusal, Request, SharedState,
+    StoredType, CEILING, LIST_ROOM,
+};
+use second::record::{fresh, Page};
+use second::steps::step;
+use second::walks::{Walk, PLANS};
+use second::wire::read_request;
+
+/// The record after these accepted steps (step, bucket, clean, value).
+fn after(steps: &[(u8, u8, u8, StoredType)]) -> Page {
+    steps.iter().fold(fresh(0), |page, &(number, b, c, v)| {
+        let outcome = step(page, &Request::new(number, b, c, v));
+        assert!(outcome.answer.is_ok(), "step {number}");
+        outcome.page
+    })
+}
+
+/// The same record with so many more readers at each bucket.
+fn crowded(mut page: Page, readers: [u8; 4]) -> Page {
+    for (bucket, number) in (0..).zip(readers) {
+        for _ in 0..number {
+            page = step(page, &Request::new(19, bucket, 0, 0)).page;
+        }
+    }
+    page
+}
+
+/// The answer, on a record that stays as it was.
+fn refusal(page: &Page, number: u8, bucket: u8, clean: u8, value: StoredType) -> Answer {
+    let outcome = step(page.clone(), &Request::new(number, bucket, clean, value));
+    assert_eq!(&outcome.page, page);
+    outcome.answer
+}
+
+const LOADED: [(u8, u8, u8, StoredType); 4] =
+    [(11, 0, 0, 0), (13, 1, 0, 0), (14, 0, 0, 0), (17, 0, 0, 7)];
+
+fn loaded() -> Page {
+    after(&LOADED)
+}
+
+/// The record after these steps on a loaded page of value 7.
+fn loaded_then(steps: &[(u8, u8, u8, StoredType)]) -> Page {
+    after(&[&LOADED, steps].concat())
+}
+
+/// An editor without a bucket, the page in its hands.
+fn editor() -> Page {
+    let visit = (7, 0, 0, 0);
+    loaded_then(&[
+        (3, 0, 0, 0),
+        (5, 0, 0, 0),
+        (6, 0, 1, 0),
+        visit,
+        visit,
+        visit,
+        visit,
+        (8, 0, 0, 0),
+    ])
+}
+
+/// The same editor, counted at bucket 1.
+fn counted_editor() -> Page {
+    step(editor(), &Request::new(18, 1, 0, 0)).page
+}
+
+#[test]
+fn number_1_comes_first() {
+    let mut page = fresh(0);
+    page.storage = None;
+    assert_eq!(refusal(&page, 19, 0, 0, 0), Err(Refusal::NotSound));
+    assert_eq!(refusal(&page, 25, 9, 9, 9), Err(Refusal::NotSound));
+}
+
+#[test]
+fn number_2() {
+    for number in [0, 25, 26, 128, 255] {
+        let answer = refusal(&fresh(0), number, 4, 2, 1);
+        assert_eq!(answer, Err(Refusal::UnknownStep));
+    }
+}
+
+#[test]
+fn number_3() {
+    let takes_bucket = [4, 13, 18, 19, 20, 21, 22, 23, 24];
+    let takes_value = [4, 9, 10, 16, 17, 22];
+    let bad = Err(Refusal::BadField);
+    for number in 1..=24 {
+        let fourth_bucket = refusal_or_not(number, 4, 0, 0);
+        if takes_bucket.contains(&number) {
+            assert_eq!(fourth_bucket, Err(Refusal::BadBucket));
+        } else {
+            assert_eq!(fourth_bucket, bad);
+        }
+        let a_value = refusal_or_not(number, 0, 0, 1 << 63);
+        assert_eq!(a_value == bad, !takes_value.contains(&number));
+        assert_eq!(refusal_or_not(number, 0, 1, 0) == bad, number != 6);
+        assert_eq!(refusal_or_not(number, 0, 2, 0), bad);
+        assert_eq!(refusal_or_not(number, 255, 255, 0), bad);
+    }
+}
+
+fn refusal_or_not(number: u8, bucket: u8, clean: u8, value: StoredType) -> Answer {
+    step(fresh(0), &Request::new(number, bucket, clean, value)).answer
+}
+
+#[test]
+fn number_4() {
+    for number in [4, 13, 18, 19, 20, 21, 22, 23, 24] {
+        for bucket in [4, 5, 31, 255] {
+            let answer = refusal(&fresh(0), number, bucket, 0, 0);
+            assert_eq!(answer, Err(Refusal::BadBucket));
+        }
+        let answer = step(fresh(0), &Request::new(number, 3, 0, 0)).answer;
+        assert_ne!(answer, Err(Refusal::BadBucket));
+    }
+}
+
+#[test]
+fn number_5() {
+    let wrong = Err(Refusal::WrongFlag);
+    for number in [1, 3, 4, 23] {
+        assert_eq!(refusal(&fresh(0), number, 0, 0, 0), wrong);
+    }
+    assert_eq!(refusal(&loaded(), 11, 0, 0, 0), wrong);
+    assert_eq!(refusal(&loaded(), 12, 0, 0, 0), wrong);
+    let loading = after(&[(12, 0, 0, 0), (19, 2, 0, 0), (23, 2, 0, 0)]);
+    assert_eq!(refusal(&loading, 24, 2, 0, 0), wrong);
+    assert_eq!(refusal(&loading, 24, 1, 0, 0), wrong);
+    let writeback = loaded_then(&[(1, 0, 0, 0)]);
+    assert_eq!(refusal(&writeback, 6, 0, 0, 0), wrong);
+    let waiting = loaded_then(&[(1, 0, 0, 0), (3, 0, 0, 0), (5, 0, 0, 0)]);
+    assert_eq!(refusal(&waiting, 6, 0, 1, 0), wrong);
+    let pending = loaded_then(&[(19, 0, 0, 0), (3, 0, 0, 0), (5, 0, 0, 0)]);
+    assert_eq!(refusal(&pending, 23, 0, 0, 0), wrong);
+}
+
+#[test]
+fn number_6() {
+    let missing = Err(Refusal::NoHolder);
+    for number in [2, 5, 6, 7, 8, 9, 10, 13, 14, 15, 16, 17, 18, 20, 21, 22, 24] {
+        assert_eq!(refusal(&fresh(0), number, 0, 0, 0), missing);
+    }
+    assert_eq!(refusal(&loaded(), 4, 0, 0, 7), missing);
+    assert_eq!(refusal(&loaded(), 23, 0, 0, 0), missing);
+    let reading = loaded_then(&[(19, 2, 0, 0), (23, 2, 0, 0), (24, 2, 0, 0)]);
+    assert_eq!(refusal(&reading, 22, 2, 0, 8), missing);
+    assert_eq!(refusal(&reading, 4, 2, 0, 8), missing);
+    assert_eq!(refusal(&reading, 22, 1, 0, 7), missing);
+    assert_eq!(refusal(&reading, 20, 2, 0, 0), missing);
+    assert_eq!(refusal(&reading, 21, 2, 0, 0), missing);
+    let claimed_beside_writeback = loaded_then(&[(1, 0, 0, 0), (3, 0, 0, 0)]);
+    assert_eq!(refusal(&claimed_beside_writeback, 6, 0, 0, 0), missing);
+    let counted = after(&[(11, 0, 0, 0), (13, 3, 0, 0)]);
+    for number in [13, 15, 16, 17] {
+        assert_eq!(refusal(&counted, number, 0, 0, 0), missing);
+    }
+}
+
+#[test]
+fn number_7() {
+    let bucket = Err(Refusal::HolderBucket);
+    assert_eq!(refusal(&editor(), 9, 0, 0, 1), bucket);
+    assert_eq!(refusal(&editor(), 10, 0, 0, 1), bucket);
+    assert_eq!(refusal(&counted_editor(), 18, 0, 0, 0), bucket);
+    for loading in [
+        after(&[(12, 0, 0, 0)]),
+        after(&[(11, 0, 0, 0), (15, 0, 0, 0)]),
+    ] {
+        assert_eq!(refusal(&loading, 16, 0, 0, 1), bucket);
+        assert_eq!(refusal(&loading, 17, 0, 0, 1), bucket);
+    }
+}
+
+#[test]
+fn number_8() {
+    let mut page = loaded_then(&[(3, 0, 0, 0), (5, 0, 0, 0), (6, 0, 0, 0)]);
+    for _ in 0..4 {
+        assert_eq!(refusal(&page, 8, 0, 0, 0), Err(Refusal::WrongVisited));
+        page = step(page, &Request::new(7, 0, 0, 0)).page;
+    }
+    assert_eq!(refusal(&page, 7, 0, 0, 0), Err(Refusal::WrongVisited));
+    assert_eq!(
+        step(page, &Request::new(8, 0, 0, 0)).answer,
+        Ok(Some(7)),
+        "the value last put in"
+    );
+}
+
+#[test]
+fn number_9() {
+    let without = loaded_then(&[(3, 0, 0, 0), (5, 0, 0, 0), (6, 0, 0, 0)]);
+    let crowd = crowded(without, [1, 0, 0, 0]);
+    assert_eq!(refusal(&crowd, 7, 0, 0, 0), Err(Refusal::OtherCount));
+    let own = loaded_then(&[
+        (19, 0, 0, 0),
+        (23, 0, 0, 0),
+        (24, 0, 0, 0),
+        (4, 0, 0, 7),
+        (5, 0, 0, 0),
+        (6, 0, 0, 0),
+    ]);
+    let crowd = crowded(own.clone(), [1, 0, 0, 0]);
+    assert_eq!(refusal(&crowd, 7, 0, 0, 0), Err(Refusal::OtherCount));
+    assert_eq!(step(own, &Request::new(7, 0, 0, 0)).answer, Ok(None));
+}
+
+#[test]
+fn number_10() {
+    let full = Err(Refusal::CountFull);
+    let readers = crowded(fresh(0), [31, 0, 0, 0]);
+    assert_eq!(refusal(&readers, 19, 0, 0, 0), full);
+    let loading = crowded(after(&[(11, 0, 0, 0)]), [0, 31, 0, 0]);
+    assert_eq!(refusal(&loading, 13, 1, 0, 0), full);
+    let editing = crowded(editor(), [0, 0, 0, 31]);
+    assert_eq!(refusal(&editing, 18, 3, 0, 0), full);
+}
+
+#[test]
+fn number_11() {
+    let full = Err(Refusal::ListFull);
+    let readers = crowded(fresh(0), [16; 4]);
+    assert_eq!(refusal(&readers, 19, 0, 0, 0), full);
+    let loading = after(&[(11, 0, 0, 0), (13, 1, 0, 0), (14, 0, 0, 0)]);
+    let loading = crowded(loading, [16; 4]);
+    assert_eq!(refusal(&loading, 16, 0, 0, 1), full);
+    let editing = crowded(counted_editor(), [16; 4]);
+    assert_eq!(refusal(&editing, 9, 0, 0, 1), full);
+    assert!(step(editing, &Request::new(10, 0, 0, 1)).answer.is_ok());
+    assert!(step(loading, &Request::new(17, 0, 0, 1)).answer.is_ok());
+}
+
+#[test]
+fn the_lower_of_two_is_given() {
+    let full_bucket = crowded(fresh(0), [31, 0, 0, 0]);
+    assert_eq!(refusal(&full_bucket, 13, 0, 0, 0), Err(Refusal::NoHolder));
+    let full_bucket = crowded(counted_editor(), [31, 0, 0, 0]);
+    assert_eq!(
+        refusal(&full_bucket, 18, 0, 0, 0),
+        Err(Refusal::HolderBucket)
+    );
+    let full_list = crowded(editor(), [16; 4]);
+    assert_eq!(refusal(&full_list, 9, 0, 0, 0), Err(Refusal::HolderBucket));
+    let full_list = crowded(fresh(0), [31, 31, 2, 0]);
+    assert_eq!(refusal(&full_list, 16, 0, 0, 0), Err(Refusal::NoHolder));
+    assert_eq!(refusal(&full_list, 19, 0, 0, 0), Err(Refusal::CountFull));
+    assert_eq!(refusal(&full_list, 19, 2, 0, 0), Err(Refusal::ListFull));
+}
+
+#[test]
+fn the_first_equal_reader_is_the_one() {
+    let pending = |bucket| SharedState::Pending {
+        bucket: BucketId(bucket),
+    };
+    let pending2 = |bucket| SharedState::Pending2 {
+        bucket: BucketId(bucket),
+    };
+    let page = loaded_then(&[
+        (19, 0, 0, 0),
+        (19, 1, 0, 0),
+        (19, 0, 0, 0),
+        (19, 1, 0, 0),
+        (23, 1, 0, 0),
+    ]);
+    assert_eq!(
+        page.shared_state,
+        [pending(0), pending2(1), pending(0), pending(1)]
+    );
+    let page = step(page, &Request::new(20, 0, 0, 0)).page;
+    assert_eq!(page.shared_state, [pending2(1), pending(0), pending(1)]);
+}
+
+/// Whether the refusal of this number (2 to 11) applies, told from the table of
+/// premises and without any order.
+fn applies(number: u8, page: &Page, request: &Request) -> bool {
+    let asked = request.step;
+    match number {
+        2 => asked == 0 || asked > 24,
+        3 => unused_not_zero(request),
+        4 => takes_bucket(asked) && request.bucket > 3,
+        5 => !flags(asked).contains(&page.flag),
+        6 => !holder(page, request),
+        7 => holder(page, request) && wrong_bucket(page, asked),
+        8 => visited(page).is_some_and(|v| asked == 7 && v == 4 || asked == 8 && v != 4),
+        9 => asked == 7 && other_count(page),
+        10 => [13, 18, 19].contains(&asked) && count(page, request.bucket) == CEILING.0,
+        11 => [9, 16, 19].contains(&asked) && page.shared_state.len() == LIST_ROOM,
+        _ => false,
+    }
+}
+
+fn takes_bucket(asked: u8) -> bool {
+    [4, 13, 18, 19, 20, 21, 22, 23, 24].contains(&asked)
+}
+
+fn unused_not_zero(request: &Request) -> bool {
+    let takes_value = [4, 9, 10, 16, 17, 22].contains(&request.step);
+    !takes_bucket(request.step) && request.bucket != 0
+        || !takes_value && request.value != 0
+        || request.step != 6 && request.clean != 0
+        || request.clean > 1
+}
+
+fn flags(asked: u8) -> Vec<Flag> {
+    use Flag::*;
+    let all = vec![
+        Unmapped,
+        Loading,
+        LoadingExcLock,
+        Available,
+        Claimed,
+        Writeback,
+        WritebackAndClaimed,
+        WritebackAndPendingExcLock,
+        PendingExcLock,
+        ExcLockClean,
+        ExcLockDirty,
+    ];
+    let but = |left_out: &[Flag]| {
+        let kept = all.iter().filter(|flag| !left_out.contains(flag));
+        kept.copied().collect()
+    };
+    match asked {
+        1 => vec![Available],
+        3 | 4 => vec![Available, Writeback],
+        6 => but(&[Writeback, WritebackAndPendingExcLock]),
+        11 | 12 => vec![Unmapped],
+        23 => vec![Available, Writeback, Claimed, WritebackAndClaimed, Loading],
+        24 => but(&[Loading]),
+        _ => all,
+    }
+}
+
+fn holder(page: &Page, request: &Request) -> bool {
+    let bucket = BucketId(request.bucket);
+    let value = request.value;
+    let lists = |reader| page.shared_state.contains(&reader);
+    match request.step {
+        2 => page.writeback_state.is_some(),
+        4 | 22 => lists(SharedState::Obtained { bucket, value }),
+        5 => matches!(page.exc_state, Some(ExcState::Claim { .. })),
+        6 => matches!(page.exc_state, Some(ExcState::PendingAwaitWriteback { .. })),
+        7 | 8 => matches!(page.exc_state, Some(ExcState::Pending { .. })),
+        9 | 10 | 18 => matches!(page.exc_state, Some(ExcState::Obtained { .. })),
+        13 | 15 => page.loading_state == Some(LoadingState::Pending),
+        14 => matches!(
+            page.loading_state,
+            Some(LoadingState::PendingCounted { .. })
+        ),
+        16 | 17 => matches!(page.loading_state, Some(LoadingState::Obtained { .. })),
+        20 | 23 => lists(SharedState::Pending { bucket }),
+        21 | 24 => lists(SharedState::Pending2 { bucket }),
+        _ => true,
+    }
+}
+
+fn wrong_bucket(page: &Page, asked: u8) -> bool {
+    match asked {
+        9 | 10 => page.exc_state.and_then(ExcState::bucket).is_none(),
+        16 | 17 => page.loading_state.and_then(LoadingState::bucket).is_none(),
+        18 => page.exc_state.and_then(ExcState::bucket).is_some(),
+        _ => false,
+    }
+}
+
+fn visited(page: &Page) -> Option<u8> {
+    match page.exc_state {
+        Some(ExcState::Pending { visited_count, .. }) => Some(visited_count.0),
+        _ => None,
+    }
+}
+
+fn other_count(page: &Page) -> bool {
+    let own = page.exc_state.and_then(ExcState::bucket);
+    visited(page).is_some_and(|v| {
+        v < 4 && count(page, v) != u8::from(own.is_some_and(|bucket| bucket.0 == v))
+    })
+}
+
+fn count(page: &Page, bucket: u8) -> u8 {
+    page.ref_counts
+        .get(usize::from(bucket))
+        .map_or(0, |count| count.0)
+}
+
+fn lowest(page: &Page, request: &Request) -> u8 {
+    (2..=11)
+        .find(|&number| applies(number, page, request))
+        .unwrap_or(0)
+}
+
+#[test]
+fn walks_give_the_lowest_number_that_applies() {
+    for plan in &PLANS {
+        for seed in 1..=20 {
+            let mut walk = Walk::new(plan.mix, seed);
+            for _ in 0..plan.length {
+                let bytes = walk.next_request();
+                if let Ok(request) = read_request(&bytes) {
+                    let expected = lowest(walk.page(), &request);
+                    assert_eq!(answer_number(&walk.answer(&bytes)), expected);
+                } else {
+                    let _ = walk.answer(&bytes);
+                }
+            }
+        }
+    }
+}
+
+#[test]
+fn every_request_on_many_records_gets_the_lowest_number() {
+    for plan in &PLANS {
+        for seed in 1..=3 {
+            let mut walk = Walk::new(plan.mix, seed);
+            for _ in 0..60 {
+                for request in all_small_requests(walk.page().storage) {
+                    let answer = step(walk.page().clone(), &request).answer;
+                    assert_eq!(answer_number(&answer), lowest(walk.page(), &request));
+                }
+                let bytes = walk.next_request();
+                let _ = walk.answer(&bytes);
+            }
+        }
+    }
+}
+
+fn all_small_requests(storage: Option<StoredType>) -> Vec<Request> {
+    let mut all = Vec::new();
+    for number in 0..=25 {
+        for bucket in 0..=4 {
+            for clean in 0..=2 {
+                for value in [0, 1, storage.unwrap_or(2)] {
+                    all.push(Request::new(number, bucket, clean, value));
+                }
+            }
+        }
+    }
+    all
+}
