@@ -1,2 +1,4 @@
 pub mod Holders
 pub mod Numbers
+pub mod Tests
+pub mod Verdicts

@@ -18,7 +18,7 @@ use kinds::claimed;
 use page_record::Head;
 use readers::Found;
 
-// 3
+// 3: a claim by an editor that has no bucket.
 pub fn bucketless_claim(h: Head) -> Decision
     ensures { λ r. ⌜ r ≡ decided h (bucketlessClaim h) ⌝ }
 {
@@ -35,7 +35,7 @@ pub fn bucketless_claim(h: Head) -> Decision
     accept(next, Edit::Keep)
 }
 
-// 4: the reader that is found becomes the claimant.
+// 4: a claim by the reader that is found, which leaves the list and keeps its bucket.
 pub fn shared_to_claim(h: Head, q: Request, found: Found) -> Decision
     ensures { λ r. ⌜ r ≡ decided h (sharedToClaim h q found) ⌝ }
 {
@@ -57,7 +57,7 @@ pub fn shared_to_claim(h: Head, q: Request, found: Found) -> Decision
     accept(next, Edit::Remove(place))
 }
 
-// 5
+// 5: the claimant waits for the archive to be done.
 pub fn claim_to_pending(h: Head) -> Decision
     ensures { λ r. ⌜ r ≡ decided h (claimToPending h) ⌝ }
 {

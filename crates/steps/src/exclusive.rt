@@ -27,7 +27,7 @@ use kinds::lock_flag;
 use kinds::writeback_done;
 use page_record::Head;
 
-// 6
+// 6: the archive is done, and the editor closes the page, as clean or as dirty.
 pub fn take_exc_lock_finish_writeback(h: Head, q: Request) -> Decision
     ensures { λ r. ⌜ r ≡ decided h (takeExcLockFinishWriteback h q) ⌝ }
 {
@@ -51,7 +51,7 @@ pub fn take_exc_lock_finish_writeback(h: Head, q: Request) -> Decision
     accept(next, Edit::Keep)
 }
 
-// 7: one reference, the editor's own, at its own bucket, and none elsewhere.
+// 7: the editor looks at the next bucket: one reference, its own, at its own bucket, and none elsewhere.
 pub fn take_exc_lock_check_ref_count(h: Head) -> Decision
     ensures { λ r. ⌜ r ≡ decided h (takeExcLockCheckRefCount h) ⌝ }
 {
@@ -85,7 +85,7 @@ pub fn take_exc_lock_check_ref_count(h: Head) -> Decision
     accept(next, Edit::Keep)
 }
 
-// 8: hands the page out.
+// 8: every bucket was looked at; the page is handed out.
 pub fn withdraw_take_exc_lock_finish(h: Head) -> Decision
     ensures { λ r. ⌜ r ≡ decided h (withdrawTakeExcLockFinish h) ⌝ }
 {
@@ -108,7 +108,7 @@ pub fn withdraw_take_exc_lock_finish(h: Head) -> Decision
     hand_out(next, value)
 }
 
-// 9
+// 9: the editor puts the page in, and reads on.
 pub fn deposit_downgrade_exc_lock(h: Head, q: Request, full: bool) -> Decision
     ensures { λ r. ⌜ r ≡ decided h (depositDowngradeExcLock h q full) ⌝ }
 {
@@ -131,7 +131,7 @@ pub fn deposit_downgrade_exc_lock(h: Head, q: Request, full: bool) -> Decision
     accept(next, Edit::Push(reader))
 }
 
-// 10
+// 10: the editor puts the page in, and keeps its claim.
 pub fn deposit_downgrade_exc_lock_to_claim(h: Head, q: Request) -> Decision
     ensures { λ r. ⌜ r ≡ decided h (depositDowngradeExcLockToClaim h q) ⌝ }
 {

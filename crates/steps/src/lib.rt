@@ -165,8 +165,8 @@ pub fn sought_by(request: Request) -> Sought
 pub fn decide(head: Head, request: Request, found: Found, full: bool) -> Decision
     ensures { λ r. ⌜ r ≡ decideOf head request found full ⌝ }
 {
-    let step = request.step;
-    match step {
+    let number = request.step;
+    match number {
         0 => refuse(head, Refusal::UnknownStep),
         1 => take_writeback(head),
         2 => release_writeback(head),

@@ -24,7 +24,7 @@ use kinds::Storage;
 use kinds::is_unmapped;
 use page_record::Head;
 
-// 11: hands the page out.
+// 11: the page is handed out to a loader.
 pub fn withdraw_alloc(h: Head) -> Decision
     ensures { λ r. ⌜ r ≡ decided h (withdrawAlloc h) ⌝ }
 {
@@ -37,7 +37,7 @@ pub fn withdraw_alloc(h: Head) -> Decision
     hand_out(next, value_of(storage))
 }
 
-// 12: hands the page out.
+// 12: the page is handed out to a loader that has no bucket and needs none.
 pub fn withdraw_alloc_no_refcount(h: Head) -> Decision
     ensures { λ r. ⌜ r ≡ decided h (withdrawAllocNoRefcount h) ⌝ }
 {
@@ -53,7 +53,7 @@ pub fn withdraw_alloc_no_refcount(h: Head) -> Decision
     hand_out(next, value_of(storage))
 }
 
-// 13
+// 13: the loader gets a bucket.
 pub fn loading_inc_count(h: Head, q: Request) -> Decision
     ensures { λ r. ⌜ r ≡ decided h (loadingIncCount h q) ⌝ }
 {
@@ -75,7 +75,7 @@ pub fn loading_inc_count(h: Head, q: Request) -> Decision
     accept(with_number(next, at, n + 1), Edit::Keep)
 }
 
-// 14
+// 14: the loader loads.
 pub fn obtain_loading(h: Head) -> Decision
     ensures { λ r. ⌜ r ≡ decided h (obtainLoading h) ⌝ }
 {
@@ -89,7 +89,7 @@ pub fn obtain_loading(h: Head) -> Decision
     accept(next, Edit::Keep)
 }
 
-// 15
+// 15: the loader loads, and has no bucket.
 pub fn obtain_loading_no_refcount(h: Head) -> Decision
     ensures { λ r. ⌜ r ≡ decided h (obtainLoadingNoRefcount h) ⌝ }
 {
@@ -105,7 +105,7 @@ pub fn obtain_loading_no_refcount(h: Head) -> Decision
     accept(next, Edit::Keep)
 }
 
-// 16
+// 16: the loader puts the page in, and reads on.
 pub fn deposit_loading_to_shared(h: Head, q: Request, full: bool) -> Decision
     ensures { λ r. ⌜ r ≡ decided h (depositLoadingToShared h q full) ⌝ }
 {
@@ -128,7 +128,7 @@ pub fn deposit_loading_to_shared(h: Head, q: Request, full: bool) -> Decision
     accept(next, Edit::Push(reader))
 }
 
-// 17; changed: it takes one off the loader's bucket.
+// 17: the loader puts the page in, and leaves. Changed: it takes one off the loader's bucket.
 pub fn deposit_loading_to_done(h: Head, q: Request) -> Decision
     ensures { λ r. ⌜ r ≡ decided h (depositLoadingToDone h q) ⌝ }
 {

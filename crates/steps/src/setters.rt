@@ -1,4 +1,5 @@
-// A head with one part exchanged, and what a step reads of one. Every function takes any head, and any number for a bucket.
+// A head with some of its parts exchanged, and what a step reads of one. Every function takes any head, and any number for a
+// bucket.
 ghost use mathlib.Core.Path.{_≡_};
 ghost use Rattle.page_record.specs.Holders.{valueOf};
 ghost use Rattle.page_record.specs.Pages.{numberAt};

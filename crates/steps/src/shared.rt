@@ -20,7 +20,7 @@ use kinds::open_to_readers;
 use page_record::Head;
 use readers::Found;
 
-// 19
+// 19: a reader comes to a bucket.
 pub fn shared_inc_count(h: Head, q: Request, full: bool) -> Decision
     ensures { λ r. ⌜ r ≡ decided h (sharedIncCount h q full) ⌝ }
 {
@@ -39,7 +39,7 @@ pub fn shared_inc_count(h: Head, q: Request, full: bool) -> Decision
     accept(with_number(h, bucket, n + 1), Edit::Push(reader))
 }
 
-// 20, 21 and 22 differ in the reader that is sought alone.
+// 20, 21 and 22: the reader that is found leaves. They differ in the phase of the reader that is sought (`sought_by`).
 fn shared_dec_count(h: Head, q: Request, found: Found) -> Decision
     ensures { λ r. ⌜ r ≡ decided h (sharedDecCount h q found) ⌝ }
 {
@@ -50,28 +50,28 @@ fn shared_dec_count(h: Head, q: Request, found: Found) -> Decision
     accept(lower(h, bucket), Edit::Remove(place))
 }
 
-// 20
+// 20: before the first check.
 pub fn shared_dec_count_pending(h: Head, q: Request, found: Found) -> Decision
     ensures { λ r. ⌜ r ≡ decided h (sharedDecCount h q found) ⌝ }
 {
     shared_dec_count(h, q, found)
 }
 
-// 21
+// 21: past the first check.
 pub fn shared_dec_count_pending2(h: Head, q: Request, found: Found) -> Decision
     ensures { λ r. ⌜ r ≡ decided h (sharedDecCount h q found) ⌝ }
 {
     shared_dec_count(h, q, found)
 }
 
-// 22
+// 22: past both.
 pub fn shared_dec_count_obtained(h: Head, q: Request, found: Found) -> Decision
     ensures { λ r. ⌜ r ≡ decided h (sharedDecCount h q found) ⌝ }
 {
     shared_dec_count(h, q, found)
 }
 
-// 23; changed: no value.
+// 23: the first check, that no editor shuts readers out. Changed: it takes no value.
 pub fn shared_check_exc(h: Head, q: Request, found: Found) -> Decision
     ensures { λ r. ⌜ r ≡ decided h (sharedCheckExc h q found) ⌝ }
 {
@@ -90,7 +90,7 @@ pub fn shared_check_exc(h: Head, q: Request, found: Found) -> Decision
     accept(h, Edit::Put(place, reader))
 }
 
-// 24
+// 24: the second check, that nobody loads; the reader now holds the value in storage.
 pub fn shared_check_loading(h: Head, q: Request, found: Found) -> Decision
     ensures { λ r. ⌜ r ≡ decided h (sharedCheckLoading h q found) ⌝ }
 {

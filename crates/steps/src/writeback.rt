@@ -15,7 +15,7 @@ use kinds::is_available;
 use kinds::released;
 use page_record::Head;
 
-// 1
+// 1: the archive starts to write the page back.
 pub fn take_writeback(h: Head) -> Decision
     ensures { λ r. ⌜ r ≡ decided h (takeWriteback h) ⌝ }
 {
@@ -31,7 +31,7 @@ pub fn take_writeback(h: Head) -> Decision
     accept(next, Edit::Keep)
 }
 
-// 2
+// 2: the archive is done. A claim that was made meanwhile stays.
 pub fn release_writeback(h: Head) -> Decision
     ensures { λ r. ⌜ r ≡ decided h (releaseWriteback h) ⌝ }
 {

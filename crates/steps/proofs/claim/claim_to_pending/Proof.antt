@@ -1,4 +1,5 @@
--- `steps::claim::claim_to_pending` meets its contract: each return, by what its tests, its matches and its calls showed. Assumes nothing.
+-- `steps::claim::claim_to_pending` meets its contract: each return, by the tests, the kinds and the calls on the way to it.
+-- Assumes nothing.
 use borrow.Author.Needs.{needs}
 use Rattle.steps.proofs.Holders.{not-claim}
 use Rattle.steps.proofs.claim.claim_to_pending.Statement.{statement}
@@ -14,4 +15,10 @@ claim-to-pending-spec =
     (λ c κs. tt)
     (λ c κs. tt)
     (λ c κs. tt)
-    (λ c. simp (c .accept .ensures, c .before .with-exc .ensures, c .before .before .awaited .ensures, c .before .before .before .before .exc .given .1)))
+    (λ c.
+    simp (
+      c .accept .ensures,
+      c .before .with-exc .ensures,
+      c .before .before .awaited .ensures,
+      c .before .before .before .before .exc .given .1,
+    )))

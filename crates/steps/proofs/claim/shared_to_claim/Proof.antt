@@ -1,7 +1,7 @@
--- `steps::claim::shared_to_claim` meets its contract: each return, by what its tests, its matches and its calls showed. Assumes nothing.
-use mathlib.Core.Path.{sym, _∙_}
+-- `steps::claim::shared_to_claim` meets its contract: each return, by the tests, the kinds and the calls on the way to it.
+-- Assumes nothing.
 use borrow.Author.Needs.{needs}
-use borrow.Author.Tests.{not-false, not-true}
+use Rattle.steps.proofs.Tests.{denied, granted}
 use Rattle.steps.proofs.claim.shared_to_claim.Statement.{statement}
 use Rattle.steps.proofs.claim.shared_to_claim.Tie as tie
 
@@ -11,12 +11,24 @@ shared-to-claim-spec =
     (tie.spec
     (λ c κs. tt)
     (λ c κs. tt)
-    (λ c. simp (c .refuse .ensures, sym (c .before .before .claimable .ensures) ∙ not-true _ (c .before .if1 .taken)))
+    (λ c. simp (c .refuse .ensures, denied (c .before .before .claimable .ensures) (c .before .if1 .taken)))
     (λ c. search needs)
     (λ c. search needs)
     (λ c κs. tt)
-    (λ c. simp (c .refuse2 .ensures, c .before .enum-told .given .1, sym (c .before .before .before .before .claimable .ensures) ∙ not-false _ (c .before .before .before .if1 .left)))
+    (λ c.
+    simp (
+      c .refuse2 .ensures,
+      c .before .enum-told .given .1,
+      granted (c .before .before .before .before .claimable .ensures) (c .before .before .before .if1 .left),
+    ))
     (λ c κs. tt)
     (λ c κs. tt)
     (λ c κs. tt)
-    (λ c. simp (c .accept .ensures, c .before .with-exc .ensures, c .before .before .claimed .ensures, c .before .before .before .before .found .given .1, sym (c .before .before .before .before .before .before .before .claimable .ensures) ∙ not-false _ (c .before .before .before .before .before .before .if1 .left))))
+    (λ c.
+    simp (
+      c .accept .ensures,
+      c .before .with-exc .ensures,
+      c .before .before .claimed .ensures,
+      c .before .before .before .before .found .given .1,
+      granted (c .before .before .before .before .before .before .before .claimable .ensures) (c .before .before .before .before .before .before .if1 .left),
+    )))

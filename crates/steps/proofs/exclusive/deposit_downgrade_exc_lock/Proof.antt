@@ -1,4 +1,5 @@
--- `steps::exclusive::deposit_downgrade_exc_lock` meets its contract: each return, by what its tests, its matches and its calls showed. Assumes nothing.
+-- `steps::exclusive::deposit_downgrade_exc_lock` meets its contract: each return, by the tests, the kinds and the calls on
+-- the way to it. Assumes nothing.
 use borrow.Author.Needs.{needs}
 use Rattle.steps.proofs.Holders.{not-editing}
 use Rattle.steps.proofs.exclusive.deposit_downgrade_exc_lock.Statement.{statement}
@@ -16,7 +17,20 @@ deposit-downgrade-exc-lock-spec =
     (λ c κs. tt)
     (λ c. simp (c .refuse2 .ensures, c .before .enum-told .given .1, c .before .before .before .before .exc .given .1))
     (λ c κs. tt)
-    (λ c. simp (c .refuse3 .ensures, c .before .if1 .taken, c .before .before .before .bucket .given .1, c .before .before .before .before .before .before .exc .given .1))
+    (λ c.
+    simp (
+      c .refuse3 .ensures,
+      c .before .if1 .taken,
+      c .before .before .before .bucket .given .1,
+      c .before .before .before .before .before .before .exc .given .1,
+    ))
     (λ c κs. tt)
     (λ c κs. tt)
-    (λ c. simp (c .accept .ensures, c .before .with-exc .ensures, c .before .before .if1 .left, c .before .before .before .before .bucket .given .1, c .before .before .before .before .before .before .before .exc .given .1)))
+    (λ c.
+    simp (
+      c .accept .ensures,
+      c .before .with-exc .ensures,
+      c .before .before .if1 .left,
+      c .before .before .before .before .bucket .given .1,
+      c .before .before .before .before .before .before .before .exc .given .1,
+    )))

@@ -1,4 +1,5 @@
--- `steps::exclusive::deposit_downgrade_exc_lock_to_claim` meets its contract: each return, by what its tests, its matches and its calls showed. Assumes nothing.
+-- `steps::exclusive::deposit_downgrade_exc_lock_to_claim` meets its contract: each return, by the tests, the kinds and the
+-- calls on the way to it. Assumes nothing.
 use borrow.Author.Needs.{needs}
 use Rattle.steps.proofs.Holders.{not-editing}
 use Rattle.steps.proofs.exclusive.deposit_downgrade_exc_lock_to_claim.Statement.{statement}
@@ -17,4 +18,10 @@ deposit-downgrade-exc-lock-to-claim-spec =
     (λ c. simp (c .refuse2 .ensures, c .before .enum-told .given .1, c .before .before .before .before .exc .given .1))
     (λ c κs. tt)
     (λ c κs. tt)
-    (λ c. simp (c .accept .ensures, c .before .with-exc .ensures, c .before .before .before .bucket .given .1, c .before .before .before .before .before .before .exc .given .1)))
+    (λ c.
+    simp (
+      c .accept .ensures,
+      c .before .with-exc .ensures,
+      c .before .before .before .bucket .given .1,
+      c .before .before .before .before .before .before .exc .given .1,
+    )))

@@ -1,4 +1,5 @@
--- `steps::exclusive::exc_inc_count` meets its contract: each return, by what its tests, its matches and its calls showed. Assumes nothing.
+-- `steps::exclusive::exc_inc_count` meets its contract: each return, by the tests, the kinds and the calls on the way to it.
+-- Assumes nothing.
 use borrow.Author.Needs.{needs}
 use borrow.Author.Tests.{le-ltb, lt-ltb}
 use Rattle.steps.proofs.Holders.{not-editing}
@@ -18,9 +19,24 @@ exc-inc-count-spec =
     (λ c. simp (c .refuse2 .ensures, c .before .enum-told2 .given .1, c .before .before .before .before .exc .given .1))
     (λ c κs. tt)
     (λ c κs. tt)
-    (λ c. simp (c .refuse3 .ensures, le-ltb _ _ (simp (c .before .before .number-at .ensures) at (c .before .if1 .taken)), c .before .before .number-at .ensures, c .before .before .before .enum-told .given .1, c .before .before .before .before .before .before .exc .given .1))
+    (λ c.
+    simp (
+      c .refuse3 .ensures,
+      le-ltb _ _ (simp (c .before .before .number-at .ensures) at (c .before .if1 .taken)),
+      c .before .before .before .enum-told .given .1,
+      c .before .before .before .before .before .before .exc .given .1,
+    ))
     (λ c κs. tt)
     (λ c. search needs)
     (λ c κs. tt)
     (λ c κs. tt)
-    (λ c. simp (c .accept .ensures, c .before .with-number .ensures, c .before .before .with-exc .ensures, lt-ltb _ _ (simp (c .before .before .before .before .number-at .ensures) at (c .before .before .before .if1 .left)), c .before .before .before .before .number-at .ensures, c .before .before .before .before .before .enum-told .given .1, c .before .before .before .before .before .before .before .before .exc .given .1)))
+    (λ c.
+    simp (
+      c .accept .ensures,
+      c .before .with-number .ensures,
+      c .before .before .with-exc .ensures,
+      lt-ltb _ _ (simp (c .before .before .before .before .number-at .ensures) at (c .before .before .before .if1 .left)),
+      c .before .before .before .before .number-at .ensures,
+      c .before .before .before .before .before .enum-told .given .1,
+      c .before .before .before .before .before .before .before .before .exc .given .1,
+    )))

@@ -1,4 +1,5 @@
--- `steps::exclusive::take_exc_lock_check_ref_count` meets its contract: each return, by what its tests, its matches and its calls showed. Assumes nothing.
+-- `steps::exclusive::take_exc_lock_check_ref_count` meets its contract: each return, by the tests, the kinds and the calls
+-- on the way to it. Assumes nothing.
 use borrow.Author.Needs.{needs}
 use borrow.Author.Tests.{eq-eqb, le-ltb, lt-ltb, ne-eqb}
 use Rattle.steps.proofs.Holders.{not-pending}
@@ -17,8 +18,21 @@ take-exc-lock-check-ref-count-spec =
     (λ c κs. tt)
     (λ c κs. tt)
     (λ c κs. tt)
-    (λ c. simp (c .refuse3 .ensures, ne-eqb _ _ (simp (c .before .before .ref-at .ensures, c .before .before .before .number-at .ensures) at (c .before .if2 .taken)), c .before .before .ref-at .ensures, c .before .before .before .number-at .ensures, lt-ltb _ _ (c .before .before .before .before .if1 .left), c .before .before .before .before .before .before .exc .given .1))
+    (λ c.
+    simp (
+      c .refuse3 .ensures,
+      ne-eqb _ _ (simp (c .before .before .ref-at .ensures, c .before .before .before .number-at .ensures) at (c .before .if2 .taken)),
+      lt-ltb _ _ (c .before .before .before .before .if1 .left),
+      c .before .before .before .before .before .before .exc .given .1,
+    ))
     (λ c. search needs)
     (λ c κs. tt)
     (λ c κs. tt)
-    (λ c. simp (c .accept .ensures, c .before .with-exc .ensures, eq-eqb _ _ (simp (c .before .before .before .ref-at .ensures, c .before .before .before .before .number-at .ensures) at (c .before .before .if2 .left)), c .before .before .before .ref-at .ensures, c .before .before .before .before .number-at .ensures, lt-ltb _ _ (c .before .before .before .before .before .if1 .left), c .before .before .before .before .before .before .before .exc .given .1)))
+    (λ c.
+    simp (
+      c .accept .ensures,
+      c .before .with-exc .ensures,
+      eq-eqb _ _ (simp (c .before .before .before .ref-at .ensures, c .before .before .before .before .number-at .ensures) at (c .before .before .if2 .left)),
+      lt-ltb _ _ (c .before .before .before .before .before .if1 .left),
+      c .before .before .before .before .before .before .before .exc .given .1,
+    )))

@@ -1,8 +1,8 @@
--- `steps::exclusive::take_exc_lock_finish_writeback` meets its contract: each return, by what its tests, its matches and its calls showed. Assumes nothing.
-use mathlib.Core.Path.{sym, _∙_}
+-- `steps::exclusive::take_exc_lock_finish_writeback` meets its contract: each return, by the tests, the kinds and the calls
+-- on the way to it. Assumes nothing.
 use borrow.Author.Needs.{needs}
-use borrow.Author.Tests.{not-false, not-true}
 use Rattle.steps.proofs.Holders.{not-await}
+use Rattle.steps.proofs.Tests.{denied, granted}
 use Rattle.steps.proofs.exclusive.take_exc_lock_finish_writeback.Statement.{statement}
 use Rattle.steps.proofs.exclusive.take_exc_lock_finish_writeback.Tie as tie
 
@@ -12,11 +12,23 @@ take-exc-lock-finish-writeback-spec =
     (tie.spec
     (λ c κs. tt)
     (λ c κs. tt)
-    (λ c. simp (c .refuse .ensures, sym (c .before .before .writeback-done .ensures) ∙ not-true _ (c .before .if1 .taken)))
+    (λ c. simp (c .refuse .ensures, denied (c .before .before .writeback-done .ensures) (c .before .if1 .taken)))
     (λ c. search needs)
     (λ c κs. tt)
-    (λ c. simp (c .refuse2 .ensures, not-await (c .before .before .before .before .before .args .h .«exc_state») (c .before .match .keys2), sym (c .before .before .before .writeback-done .ensures) ∙ not-false _ (c .before .before .if1 .left)))
+    (λ c.
+    simp (
+      c .refuse2 .ensures,
+      not-await (c .before .before .before .before .before .args .h .«exc_state») (c .before .match .keys2),
+      granted (c .before .before .before .writeback-done .ensures) (c .before .before .if1 .left),
+    ))
     (λ c κs. tt)
     (λ c κs. tt)
     (λ c κs. tt)
-    (λ c. simp (c .accept .ensures, c .before .with-exc .ensures, c .before .before .lock-flag .ensures, c .before .before .before .before .exc .given .1, sym (c .before .before .before .before .before .before .before .writeback-done .ensures) ∙ not-false _ (c .before .before .before .before .before .before .if1 .left))))
+    (λ c.
+    simp (
+      c .accept .ensures,
+      c .before .with-exc .ensures,
+      c .before .before .lock-flag .ensures,
+      c .before .before .before .before .exc .given .1,
+      granted (c .before .before .before .before .before .before .before .writeback-done .ensures) (c .before .before .before .before .before .before .if1 .left),
+    )))

@@ -1,4 +1,5 @@
--- `steps::exclusive::withdraw_take_exc_lock_finish` meets its contract: each return, by what its tests, its matches and its calls showed. Assumes nothing.
+-- `steps::exclusive::withdraw_take_exc_lock_finish` meets its contract: each return, by the tests, the kinds and the calls
+-- on the way to it. Assumes nothing.
 use borrow.Author.Needs.{needs}
 use borrow.Author.Tests.{eq-eqb, ne-eqb}
 use Rattle.steps.proofs.Holders.{not-pending}
@@ -16,4 +17,10 @@ withdraw-take-exc-lock-finish-spec =
     (λ c. simp (c .refuse2 .ensures, ne-eqb _ _ (c .before .if1 .taken), c .before .before .before .before .exc .given .1))
     (λ c κs. tt)
     (λ c κs. tt)
-    (λ c. simp (c .hand-out .ensures, c .before .with-exc .ensures, eq-eqb _ _ (c .before .before .if1 .left), c .before .before .before .before .before .exc .given .1)))
+    (λ c.
+    simp (
+      c .hand-out .ensures,
+      c .before .with-exc .ensures,
+      eq-eqb _ _ (c .before .before .if1 .left),
+      c .before .before .before .before .before .exc .given .1,
+    )))

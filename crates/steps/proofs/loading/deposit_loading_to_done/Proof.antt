@@ -1,4 +1,5 @@
--- `steps::loading::deposit_loading_to_done` meets its contract: each return, by what its tests, its matches and its calls showed. Assumes nothing.
+-- `steps::loading::deposit_loading_to_done` meets its contract: each return, by the tests, the kinds and the calls on the
+-- way to it. Assumes nothing.
 use borrow.Author.Needs.{needs}
 use Rattle.steps.proofs.Holders.{not-loaded}
 use Rattle.steps.proofs.loading.deposit_loading_to_done.Statement.{statement}
@@ -18,4 +19,11 @@ deposit-loading-to-done-spec =
     (λ c κs. tt)
     (λ c κs. tt)
     (λ c κs. tt)
-    (λ c. simp (c .accept .ensures, c .before .lower .ensures, c .before .before .with-loading .ensures, c .before .before .before .before .bucket .given .1, c .before .before .before .before .before .before .before .loading .given .1)))
+    (λ c.
+    simp (
+      c .accept .ensures,
+      c .before .lower .ensures,
+      c .before .before .with-loading .ensures,
+      c .before .before .before .before .bucket .given .1,
+      c .before .before .before .before .before .before .before .loading .given .1,
+    )))

@@ -1,4 +1,5 @@
--- `steps::loading::obtain_loading` meets its contract: each return, by what its tests, its matches and its calls showed. Assumes nothing.
+-- `steps::loading::obtain_loading` meets its contract: each return, by the tests, the kinds and the calls on the way to it.
+-- Assumes nothing.
 use borrow.Author.Needs.{needs}
 use Rattle.steps.proofs.Holders.{not-counted}
 use Rattle.steps.proofs.loading.obtain_loading.Statement.{statement}

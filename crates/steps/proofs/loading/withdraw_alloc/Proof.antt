@@ -1,6 +1,6 @@
--- `steps::loading::withdraw_alloc` meets its contract: each return, by what its tests, its matches and its calls showed. Assumes nothing.
-use mathlib.Core.Path.{sym, _∙_}
-use borrow.Author.Tests.{not-false, not-true}
+-- `steps::loading::withdraw_alloc` meets its contract: each return, by the tests, the kinds and the calls on the way to it.
+-- Assumes nothing.
+use Rattle.steps.proofs.Tests.{denied, granted}
 use Rattle.steps.proofs.loading.withdraw_alloc.Statement.{statement}
 use Rattle.steps.proofs.loading.withdraw_alloc.Tie as tie
 
@@ -10,8 +10,14 @@ withdraw-alloc-spec =
     (tie.spec
     (λ c κs. tt)
     (λ c κs. tt)
-    (λ c. simp (c .refuse .ensures, sym (c .before .before .is-unmapped .ensures) ∙ not-true _ (c .before .if1 .taken)))
+    (λ c. simp (c .refuse .ensures, denied (c .before .before .is-unmapped .ensures) (c .before .if1 .taken)))
     (λ c κs. tt)
     (λ c κs. tt)
     (λ c κs. tt)
-    (λ c. simp (c .hand-out .ensures, c .before .value-of .ensures, c .before .before .with-loading .ensures, sym (c .before .before .before .before .is-unmapped .ensures) ∙ not-false _ (c .before .before .before .if1 .left))))
+    (λ c.
+    simp (
+      c .hand-out .ensures,
+      c .before .value-of .ensures,
+      c .before .before .with-loading .ensures,
+      granted (c .before .before .before .before .is-unmapped .ensures) (c .before .before .before .if1 .left),
+    )))

@@ -1,6 +1,6 @@
--- `steps::requests::bucket_fits` meets its contract: each return, by what its tests, its matches and its calls showed. Assumes nothing.
-use mathlib.Core.Path.{sym, _∙_}
-use borrow.Author.Tests.{not-false, not-true}
+-- `steps::requests::bucket_fits` meets its contract: each return, by the tests, the kinds and the calls on the way to it.
+-- Assumes nothing.
+use Rattle.steps.proofs.Tests.{denied, granted}
 use Rattle.steps.proofs.requests.bucket_fits.Statement.{statement}
 use Rattle.steps.proofs.requests.bucket_fits.Tie as tie
 
@@ -9,5 +9,5 @@ bucket-fits-spec =
     tie.close
     (tie.spec
     (λ c κs. tt)
-    (λ c. simp (sym (c .before .takes-bucket .ensures) ∙ not-true _ (c .if1 .taken)))
-    (λ c. simp (sym (c .before .before .takes-bucket .ensures) ∙ not-false _ (c .before .if1 .left))))
+    (λ c. simp (denied (c .before .takes-bucket .ensures) (c .if1 .taken)))
+    (λ c. simp (granted (c .before .before .takes-bucket .ensures) (c .before .if1 .left))))

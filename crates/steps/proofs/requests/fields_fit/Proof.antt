@@ -1,7 +1,8 @@
--- `steps::requests::fields_fit` meets its contract: each return, by what its tests, its matches and its calls showed. Assumes nothing.
-use mathlib.Core.Path.{sym, _∙_}
+-- `steps::requests::fields_fit` meets its contract: each return, by what the bucket's, clean's and the value's test said.
+-- Assumes nothing.
 use borrow.Author.Needs.{needs}
-use borrow.Author.Tests.{le-leb, lt-leb, not-false, not-true}
+use borrow.Author.Tests.{le-leb, lt-leb}
+use Rattle.steps.proofs.Tests.{denied, granted}
 use Rattle.steps.proofs.requests.fields_fit.Statement.{statement}
 use Rattle.steps.proofs.requests.fields_fit.Tie as tie
 
@@ -12,9 +13,23 @@ fields-fit-spec =
     (λ c κs. tt)
     (λ c. search needs)
     (λ c κs. tt)
-    (λ c. simp (sym (simp (c .before .before .before .takes-bucket .ensures) at (c .before .zero-unless .ensures)) ∙ not-true _ (c .if1 .taken)))
+    (λ c.
+    let bucket = simp (c .before .before .before .takes-bucket .ensures) at (c .before .zero-unless .ensures) in
+    simp (denied bucket (c .if1 .taken)))
     (λ c κs. tt)
-    (λ c. simp (lt-leb _ _ (simp (c .before .highest-clean .ensures) at (c .if2 .taken)), c .before .highest-clean .ensures, sym (simp (c .before .before .before .before .before .takes-bucket .ensures) at (c .before .before .before .zero-unless .ensures)) ∙ not-false _ (c .before .before .if1 .left)))
+    (λ c.
+    let b = c .before .before in
+    let bucket = simp (b .before .before .before .takes-bucket .ensures) at (b .before .zero-unless .ensures) in
+    simp (lt-leb _ _ (simp (c .before .highest-clean .ensures) at (c .if2 .taken)), granted bucket (b .if1 .left)))
     (λ c κs. tt)
     (λ c κs. tt)
-    (λ c. simp (c .zero-unless2 .ensures, c .before .takes-value .ensures, le-leb _ _ (simp (c .before .before .before .highest-clean .ensures) at (c .before .before .if2 .left)), c .before .before .before .highest-clean .ensures, sym (simp (c .before .before .before .before .before .before .before .takes-bucket .ensures) at (c .before .before .before .before .before .zero-unless .ensures)) ∙ not-false _ (c .before .before .before .before .if1 .left))))
+    (λ c.
+    let k = c .before .before in
+    let b = k .before .before in
+    let bucket = simp (b .before .before .before .takes-bucket .ensures) at (b .before .zero-unless .ensures) in
+    simp (
+      c .zero-unless2 .ensures,
+      c .before .takes-value .ensures,
+      le-leb _ _ (simp (k .before .highest-clean .ensures) at (k .if2 .left)),
+      granted bucket (b .if1 .left),
+    )))

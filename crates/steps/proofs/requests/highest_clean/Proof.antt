@@ -1,4 +1,5 @@
--- `steps::requests::highest_clean` meets its contract: each return, by what its tests, its matches and its calls showed. Assumes nothing.
+-- `steps::requests::highest_clean` meets its contract: each return, by the tests, the kinds and the calls on the way to it.
+-- Assumes nothing.
 use mathlib.Core.Path.{sym, _∙_}
 use Rattle.steps.proofs.requests.highest_clean.Statement.{statement}
 use Rattle.steps.proofs.requests.highest_clean.Tie as tie

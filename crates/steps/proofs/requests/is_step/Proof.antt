@@ -1,4 +1,5 @@
--- `steps::requests::is_step` meets its contract: each return, by what its tests, its matches and its calls showed. Assumes nothing.
+-- `steps::requests::is_step` meets its contract: each return, by the tests, the kinds and the calls on the way to it.
+-- Assumes nothing.
 use borrow.Author.Tests.{le-leb, lt-leb}
 use Rattle.steps.proofs.requests.is_step.Statement.{statement}
 use Rattle.steps.proofs.requests.is_step.Tie as tie

@@ -1,4 +1,5 @@
--- `steps::requests::zero_unless` meets its contract: each return, by what its tests, its matches and its calls showed. Assumes nothing.
+-- `steps::requests::zero_unless` meets its contract: each return, by the tests, the kinds and the calls on the way to it.
+-- Assumes nothing.
 use borrow.Author.Needs.{needs}
 use Rattle.steps.proofs.requests.zero_unless.Statement.{statement}
 use Rattle.steps.proofs.requests.zero_unless.Tie as tie

@@ -1,4 +1,5 @@
--- `steps::setters::ref_at` meets its contract: each return, by what its tests, its matches and its calls showed. Assumes nothing.
+-- `steps::setters::ref_at` meets its contract: each return, by the tests, the kinds and the calls on the way to it. Assumes
+-- nothing.
 use borrow.Author.Needs.{needs}
 use borrow.Author.Tests.{eq-eqb, ne-eqb}
 use Rattle.steps.proofs.setters.ref_at.Statement.{statement}

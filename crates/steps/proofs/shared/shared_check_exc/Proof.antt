@@ -1,7 +1,7 @@
--- `steps::shared::shared_check_exc` meets its contract: each return, by what its tests, its matches and its calls showed. Assumes nothing.
-use mathlib.Core.Path.{sym, _∙_}
+-- `steps::shared::shared_check_exc` meets its contract: each return, by the tests, the kinds and the calls on the way to it.
+-- Assumes nothing.
 use borrow.Author.Needs.{needs}
-use borrow.Author.Tests.{not-false, not-true}
+use Rattle.steps.proofs.Tests.{denied, granted}
 use Rattle.steps.proofs.shared.shared_check_exc.Statement.{statement}
 use Rattle.steps.proofs.shared.shared_check_exc.Tie as tie
 
@@ -11,10 +11,20 @@ shared-check-exc-spec =
     (tie.spec
     (λ c κs. tt)
     (λ c κs. tt)
-    (λ c. simp (c .refuse .ensures, sym (c .before .before .open-to-readers .ensures) ∙ not-true _ (c .before .if1 .taken)))
+    (λ c. simp (c .refuse .ensures, denied (c .before .before .open-to-readers .ensures) (c .before .if1 .taken)))
     (λ c. search needs)
     (λ c. search needs)
     (λ c κs. tt)
-    (λ c. simp (c .refuse2 .ensures, c .before .enum-told .given .1, sym (c .before .before .before .before .open-to-readers .ensures) ∙ not-false _ (c .before .before .before .if1 .left)))
+    (λ c.
+    simp (
+      c .refuse2 .ensures,
+      c .before .enum-told .given .1,
+      granted (c .before .before .before .before .open-to-readers .ensures) (c .before .before .before .if1 .left),
+    ))
     (λ c κs. tt)
-    (λ c. simp (c .accept .ensures, c .before .before .found .given .1, sym (c .before .before .before .before .before .open-to-readers .ensures) ∙ not-false _ (c .before .before .before .before .if1 .left))))
+    (λ c.
+    simp (
+      c .accept .ensures,
+      c .before .before .found .given .1,
+      granted (c .before .before .before .before .before .open-to-readers .ensures) (c .before .before .before .before .if1 .left),
+    )))

@@ -1,4 +1,5 @@
--- `steps::shared::shared_dec_count` meets its contract: each return, by what its tests, its matches and its calls showed. Assumes nothing.
+-- `steps::shared::shared_dec_count` meets its contract: each return, by the tests, the kinds and the calls on the way to it.
+-- Assumes nothing.
 use borrow.Author.Needs.{needs}
 use Rattle.steps.proofs.shared.shared_dec_count.Statement.{statement}
 use Rattle.steps.proofs.shared.shared_dec_count.Tie as tie

@@ -1,4 +1,5 @@
--- `steps::shared::shared_inc_count` meets its contract: each return, by what its tests, its matches and its calls showed. Assumes nothing.
+-- `steps::shared::shared_inc_count` meets its contract: each return, by the tests, the kinds and the calls on the way to it.
+-- Assumes nothing.
 use borrow.Author.Needs.{needs}
 use borrow.Author.Tests.{le-ltb, lt-ltb}
 use Rattle.steps.proofs.shared.shared_inc_count.Statement.{statement}
@@ -10,10 +11,26 @@ shared-inc-count-spec =
     (tie.spec
     (λ c κs. tt)
     (λ c κs. tt)
-    (λ c. simp (c .refuse .ensures, le-ltb _ _ (simp (c .before .before .number-at .ensures) at (c .before .if1 .taken)), c .before .before .number-at .ensures))
+    (λ c.
+    simp (
+      c .refuse .ensures,
+      le-ltb _ _ (simp (c .before .before .number-at .ensures) at (c .before .if1 .taken)),
+    ))
     (λ c κs. tt)
-    (λ c. simp (c .refuse2 .ensures, c .before .if2 .taken, lt-ltb _ _ (simp (c .before .before .before .number-at .ensures) at (c .before .before .if1 .left)), c .before .before .before .number-at .ensures))
+    (λ c.
+    simp (
+      c .refuse2 .ensures,
+      c .before .if2 .taken,
+      lt-ltb _ _ (simp (c .before .before .before .number-at .ensures) at (c .before .before .if1 .left)),
+    ))
     (λ c. search needs)
     (λ c κs. tt)
     (λ c κs. tt)
-    (λ c. simp (c .accept .ensures, c .before .with-number .ensures, c .before .before .if2 .left, lt-ltb _ _ (simp (c .before .before .before .before .number-at .ensures) at (c .before .before .before .if1 .left)), c .before .before .before .before .number-at .ensures)))
+    (λ c.
+    simp (
+      c .accept .ensures,
+      c .before .with-number .ensures,
+      c .before .before .if2 .left,
+      lt-ltb _ _ (simp (c .before .before .before .before .number-at .ensures) at (c .before .before .before .if1 .left)),
+      c .before .before .before .before .number-at .ensures,
+    )))

@@ -1,4 +1,5 @@
--- `steps::writeback::release_writeback` meets its contract: each return, by what its tests, its matches and its calls showed. Assumes nothing.
+-- `steps::writeback::release_writeback` meets its contract: each return, by the tests, the kinds and the calls on the way to
+-- it. Assumes nothing.
 use borrow.Author.Needs.{needs}
 use Rattle.steps.proofs.writeback.release_writeback.Statement.{statement}
 use Rattle.steps.proofs.writeback.release_writeback.Tie as tie
@@ -14,4 +15,10 @@ release-writeback-spec =
     (λ c κs. tt)
     (λ c κs. tt)
     (λ c κs. tt)
-    (λ c. simp (c .accept .ensures, c .before .with-writeback .ensures, c .before .before .released .ensures, c .before .before .before .enum-told .given .1)))
+    (λ c.
+    simp (
+      c .accept .ensures,
+      c .before .with-writeback .ensures,
+      c .before .before .released .ensures,
+      c .before .before .before .enum-told .given .1,
+    )))

@@ -1,6 +1,6 @@
--- `steps::writeback::take_writeback` meets its contract: each return, by what its tests, its matches and its calls showed. Assumes nothing.
-use mathlib.Core.Path.{sym, _∙_}
-use borrow.Author.Tests.{not-false, not-true}
+-- `steps::writeback::take_writeback` meets its contract: each return, by the tests, the kinds and the calls on the way to
+-- it. Assumes nothing.
+use Rattle.steps.proofs.Tests.{denied, granted}
 use Rattle.steps.proofs.writeback.take_writeback.Statement.{statement}
 use Rattle.steps.proofs.writeback.take_writeback.Tie as tie
 
@@ -10,8 +10,14 @@ take-writeback-spec =
     (tie.spec
     (λ c κs. tt)
     (λ c κs. tt)
-    (λ c. simp (c .refuse .ensures, sym (c .before .before .is-available .ensures) ∙ not-true _ (c .before .if1 .taken)))
+    (λ c. simp (c .refuse .ensures, denied (c .before .before .is-available .ensures) (c .before .if1 .taken)))
     (λ c κs. tt)
     (λ c κs. tt)
     (λ c κs. tt)
-    (λ c. simp (c .accept .ensures, c .before .with-writeback .ensures, c .before .before .value-of .ensures, sym (c .before .before .before .before .is-available .ensures) ∙ not-false _ (c .before .before .before .if1 .left))))
+    (λ c.
+    simp (
+      c .accept .ensures,
+      c .before .with-writeback .ensures,
+      c .before .before .value-of .ensures,
+      granted (c .before .before .before .before .is-available .ensures) (c .before .before .before .if1 .left),
+    )))

@@ -1,0 +1,123 @@
+-- What a list of premises comes to, by one induction each: all hold just if none fails (`passed`, `passes`); the reason that
+-- is given is that of the first that fails (`failed`, `fails`); two lists are judged one after the other (`verdict-append`).
+-- And what that makes of a step: where all hold it answers as it says (`decided-passed`), and a refusal changes nothing
+-- (`decided-failed`, `refused-keeps`; `decide-keeps` for every step). Assumes nothing.
+use Prim.Native.Nat.{ℕ, zero, suc}
+use mathlib.Core.Bool.{Bool, true, false}
+use mathlib.Core.List.{List, [], _∷_, _++_}
+use mathlib.Core.Path.{_≡_, refl, ap, subst}
+use native.Mathlib.Omega.{arith}
+use lib.Dec.{T, when}
+use lib.ListN.{getD}
+use Rattle.readers.specs.declared.Found.{Found}
+use Rattle.page_record.specs.declared.Head.{Head}
+use Rattle.steps.specs.declared.Refusal.{Refusal}
+use Rattle.steps.specs.declared.Answer.{Answer}
+use Rattle.steps.specs.declared.Verdict.{Verdict}
+use Rattle.steps.specs.declared.Request.{Request}
+use Rattle.steps.specs.Premises.{Step, verdict, Passes, refused, settled, decided}
+use Rattle.steps.specs.Decide.{decideOf, stepAt, steps, unknown}
+
+-- ---- all hold
+pub never : (why : Refusal) → Verdict.Failed why ≡ Verdict.Passed → ⊥
+never why e = let z : _≡_ {A = ℕ} 0 1 = cc in omega arith
+
+pub passed : (cs : List (Refusal × Bool)) → verdict cs ≡ Verdict.Passed → Passes cs
+passed [] e = tt
+passed ((why, true) ∷ cs) e = (tt, passed cs e)
+passed ((why, false) ∷ cs) e = absurd (never why e)
+
+pub passes : (cs : List (Refusal × Bool)) → Passes cs → verdict cs ≡ Verdict.Passed
+passes [] p = refl
+passes ((why, true) ∷ cs) p = passes cs (p .1)
+passes ((why, false) ∷ cs) p = absurd (p .0)
+
+-- ---- one fails
+-- a premise with this reason fails, and those before it hold
+pub record FailsFirst (cs : List (Refusal × Bool)) (why : Refusal) : Type 0 where
+  pub before : List (Refusal × Bool)
+  pub after : List (Refusal × Bool)
+  pub split : cs ≡ before ++ (why, false) ∷ after
+  pub held : Passes before
+
+pub failed : (cs : List (Refusal × Bool)) (why : Refusal) → verdict cs ≡ Verdict.Failed why → FailsFirst cs why
+failed [] why e = let z : _≡_ {A = ℕ} 0 1 = cc in absurd (omega arith)
+failed ((other, true) ∷ cs) why e =
+    let f = failed cs why e in
+    record {
+      before = (other, true) ∷ f .before;
+      after = f .after;
+      split = ap (λ (l : List (Refusal × Bool)). (other, true) ∷ l) (f .split);
+      held = (tt, f .held);
+    }
+failed ((other, false) ∷ cs) why e =
+    record {
+      before = [];
+      after = cs;
+      split = let same : other ≡ why = cc in ap (λ (w : Refusal). (w, false) ∷ cs) same;
+      held = tt;
+    }
+
+pub fails : (before after : List (Refusal × Bool)) (why : Refusal)
+    → Passes before → verdict (before ++ (why, false) ∷ after) ≡ Verdict.Failed why
+fails [] after why p = refl
+fails ((other, true) ∷ before) after why p = fails before after why (p .1)
+fails ((other, false) ∷ before) after why p = absurd (p .0)
+
+-- ---- one list after another
+abbrev pub andThen : Verdict → Verdict → Verdict
+andThen Verdict.Passed v = v
+andThen (Verdict.Failed why) v = Verdict.Failed why
+
+pub verdict-append : (xs ys : List (Refusal × Bool)) → verdict (xs ++ ys) ≡ andThen (verdict xs) (verdict ys)
+verdict-append [] ys = refl
+verdict-append ((why, true) ∷ xs) ys = verdict-append xs ys
+verdict-append ((why, false) ∷ xs) ys = refl
+
+-- ---- a step
+pub decided-passed : (h : Head) (st : Step)
+    → Passes (st .premises) → decided h st ≡ record { answer = st .answer; head = st .head; edit = st .edit }
+decided-passed h st p = ap (settled h st) (passes (st .premises) p)
+
+pub decided-failed : (h : Head) (st : Step) (why : Refusal)
+    → verdict (st .premises) ≡ Verdict.Failed why → decided h st ≡ refused h why
+decided-failed h st why e = ap (settled h st) e
+
+-- a step never answers with a refusal of its own, so what is answered with one is refused by a premise, and changes nothing
+pub refused-keeps : (h : Head) (st : Step) (why : Refusal)
+    → ((other : Refusal) → st .answer ≡ Answer.Refused other → ⊥)
+    → decided h st .answer ≡ Answer.Refused why → decided h st ≡ refused h why
+refused-keeps h st why own e = go (verdict (st .premises)) e
+  where
+    go : (v : Verdict) → settled h st v .answer ≡ Answer.Refused why → settled h st v ≡ refused h why
+    go Verdict.Passed e = absurd (own why e)
+    go (Verdict.Failed other) e = let same : other ≡ why = cc in ap (refused h) same
+
+-- ---- every step of the table
+-- an answer that is no refusal
+abbrev plain : Answer → Bool
+plain Answer.Accepted = true
+plain (Answer.Withdrew value) = true
+plain (Answer.Refused why) = false
+
+abbrev AllPlain : List Step → Type 0
+AllPlain [] = Unit {0}
+AllPlain (st ∷ sts) = when (plain (st .answer)) (AllPlain sts)
+
+both : (t : Bool) {X : Type 0} → when t X → T t × X
+both true x = (tt, x)
+both false x = absurd x
+
+plain-at : (sts : List Step) (n : ℕ) (d : Step) → AllPlain sts → T (plain (d .answer)) → T (plain (getD sts n d .answer))
+plain-at [] n d all t = t
+plain-at (st ∷ sts) zero d all t = both (plain (st .answer)) all .0
+plain-at (st ∷ sts) (suc n) d all t = plain-at sts n d (both (plain (st .answer)) all .1) t
+
+-- what is refused changes nothing, and carries no value
+pub decide-keeps : (h : Head) (q : Request) (found : Found) (full : Bool) (why : Refusal)
+    → decideOf h q found full .answer ≡ Answer.Refused why → decideOf h q found full ≡ refused h why
+unfolding decideOf
+decide-keeps h q found full why e =
+    refused-keeps h (stepAt h q found full) why
+    (λ other r. subst (λ (a : Answer). T (plain a)) r (plain-at (steps h q found full) (q .step) (unknown h) tt tt))
+    e
