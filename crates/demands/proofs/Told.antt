@@ -38,7 +38,8 @@ use Rattle.page_record.proofs.Tested.{facts}
 use Rattle.readers.proofs.Tests.{to-true}
 use Rattle.lock.specs.Step.{lookFor, stepped, stepOf}
 use Rattle.lock.proofs.Pick.{Below, _&_, pick}
-use Rattle.lock.proofs.Passes.{passes-of, judged-bucket}
+use Rattle.steps.proofs.Verdicts.{passed}
+use Rattle.lock.proofs.Passes.{judged-bucket}
 use Rattle.lock.proofs.Least.{step-below}
 use Rattle.lock.proofs.Keeps.{step-keeps}
 use Rattle.steps.specs.declared.Refusal.{Refusal}
@@ -248,11 +249,11 @@ module _ (fresh : ℕ) (p : Page) (q : Request) (past : List Event) where
           let l = live (p .readers) in
           let full = leb capacity (p .readers .len) in
           let inside = judged-bucket q formed in
-          let known = passes-of (formal q) formed .0 in
+          let known = passed (formal q) formed .0 in
           pick 25 (Entry fresh (headOf p) l (q .bucket) (q .clean) (q .value) full past sound inside told)
           (entries fresh (headOf p) l (q .bucket) (q .clean) (q .value) full past sound inside told)
           (q .step) (step-below (q .step) known)
-          (passes-of (st .premises) f)
+          (passed (st .premises) f)
       go (Verdict.Failed why) f = refused-tells fresh (headOf p) past q why told
 
   -- any request on a sound page

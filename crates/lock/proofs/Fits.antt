@@ -37,7 +37,7 @@ use Rattle.steps.specs.Decide.{unknown}
 use Rattle.lock.specs.Step.{edited, lookFor, decidedOn}
 use Rattle.lock.specs.Moves
 use Rattle.lock.specs.Moves.{RwLock, stateWith, countOf, Elsewhere, Room, answerOf, raises, lists, pending, pending2, obtained}
-use Rattle.lock.proofs.Passes.{passes-of}
+use Rattle.steps.proofs.Verdicts.{passed}
 use Rattle.lock.proofs.MoveLaws.{handed, is-handed, unrefused, stepNo, by-number, Formed, opened, expected, Split, split}
 use Rattle.lock.proofs.Pick.{_&_, pick}
 use Rattle.lock.proofs.Counts.{set-there, set-others}
@@ -83,7 +83,7 @@ module _ (h : Head) (l : List Reader) (q : Request) where
     where
       go : (v : Verdict) → verdict (st .premises) ≡ v → Fits (settled h st v)
       go Verdict.Passed e =
-          let p = passes-of (st .premises) e in
+          let p = passed (st .premises) e in
           record { fits = λ out a. (moves p out (rw a (is-handed out)), room p) }
       go (Verdict.Failed why) e = record { fits = λ out a. absurd (unrefused why out a) }
 

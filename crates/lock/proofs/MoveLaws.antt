@@ -42,7 +42,8 @@ use Rattle.steps.specs.Steps.{isFound, placeOf}
 use Rattle.steps.specs.Decide.{unknown, steps, sought, decideOf, soughtOf}
 use Rattle.lock.specs.Step.{edited, lookFor, decidedOn}
 use Rattle.lock.specs.Moves.{some, Absent, answerOf}
-use Rattle.lock.proofs.Passes.{passes-of, judged-bucket}
+use Rattle.steps.proofs.Verdicts.{passed}
+use Rattle.lock.proofs.Passes.{judged-bucket}
 use Rattle.lock.proofs.Cells.{found-first}
 use Rattle.lock.proofs.Counts.{set-there, set-others}
 
@@ -92,7 +93,7 @@ clean-below false c t = omega (arith, leb→le c 0 t)
 pub formed : (q : Request) → judged q ≡ Verdict.Passed → Formed q
 unfolding judged
 formed q e =
-    let p = passes-of (formal q) e in
+    let p = passed (formal q) e in
     let n = q .step in
     let bucket = takesBucket n || eqb (q .bucket .0) 0 in
     let clean = leb (q .clean) (cond (takesClean n) 1 0) in

@@ -1,5 +1,5 @@
--- A list of premises: what follows where all hold, and where one fails. A request that is judged well formed has a bucket
--- from 0 to 3, whether its step takes one or not. Assumes nothing.
+-- A list of premises of which one fails can't pass. A request that is judged well formed has a bucket from 0 to 3, whether
+-- its step takes one or not. Assumes nothing.
 use Prim.Native.Nat.{ℕ, _<_}
 use mathlib.Core.Path.{_≡_}
 use mathlib.Core.Bool.{Bool, true, false, not, cond, _&&_, _||_}
@@ -12,6 +12,7 @@ use Rattle.steps.specs.declared.Refusal.{Refusal}
 use Rattle.steps.specs.declared.Verdict.{Verdict}
 use Rattle.steps.specs.declared.Request.{Request}
 use Rattle.steps.specs.Premises.{verdict, Passes}
+use Rattle.steps.proofs.Verdicts.{passed}
 use Rattle.steps.specs.Requests.{takesBucket, takesClean, takesValue, formal, judged}
 
 -- one of them fails
@@ -27,18 +28,10 @@ fails-not (c ∷ cs) t p = go (c .1) t (p .0) (λ u. fails-not cs u (p .1))
     go true t u rest = rest t
     go false t u rest = u
 
-pub passes-of : (ps : List (Refusal × Bool)) → verdict ps ≡ Verdict.Passed → Passes ps
-passes-of [] e = tt
-passes-of (c ∷ cs) e = go (c .1) e (passes-of cs)
-  where
-    go : (b : Bool) → cond b (verdict cs) (Verdict.Failed (c .0)) ≡ Verdict.Passed → (verdict cs ≡ Verdict.Passed → Passes cs) → T b × Passes cs
-    go true e rest = (tt, rest e)
-    go false e rest = let z : _≡_ {A = ℕ} 0 1 = cc in absurd (omega arith)
-
 pub judged-bucket : (q : Request) → judged q ≡ Verdict.Passed → q .bucket .0 < buckets
 unfolding judged
 judged-bucket q e =
-    let p = passes-of (formal q) e in
+    let p = passed (formal q) e in
     let b = q .bucket .0 in
     let clean = leb (q .clean) (cond (takesClean (q .step)) 1 0) in
     let value = takesValue (q .step) || eqb (q .value) 0 in

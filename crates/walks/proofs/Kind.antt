@@ -1,6 +1,6 @@
 -- A type of plain data that has one machine value (a number, a bool, a struct, an enum, an array), taken apart into what a walk by hand uses of it.
 -- A walk over a variable K : Kind never sees what the type is made of, so neither its size nor the length of an array in it costs anything.
--- It says nothing of the crate, and can be copied as it stands.
+-- It speaks of no crate: a crate that lends its record names its own types here, once.
 --     Kind         the type's parts, and three laws
 --     row          the type itself, as the logic has it. `row 𝓤 H A (struct-kind 𝓤 H A W T.the-type T′.the-laws T′.the-plain)` is `T.the-row` by computation
 --     Holds        d is related to its own machine value

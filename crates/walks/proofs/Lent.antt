@@ -1,6 +1,6 @@
 -- A record that is lent by `&mut` to a thin function, which copies it, hands the copy to a function by value, and stores what that one made of it:
 --     pub fn apply(page: &mut Page, request: Request) -> Answer { let was = *page; let out = step(was, request); *page = out.page; out.answer }
--- The walk of that function's MIR, over ANY record, request and answer: it says nothing of the crate, and can be copied as it stands.
+-- The walk of that function's MIR, over any record, request and answer; a crate cites it at its own types.
 --     applyFn      the function's MIR. `refl` shows that it is the crate's `code.function`
 --     Said         what is known of what the callee returned
 --     walk         from the opened-up entry to the function's `WpFn`

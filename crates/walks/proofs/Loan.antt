@@ -1,7 +1,7 @@
 -- A local record that is lent by `&mut` to a function with the contract of `Lent.antt`'s, and read again afterwards:
---     pub fn once(page: Page, request: Request) -> Outcome { let mut p = page; let a = apply(&mut p, request); Outcome { answer: a, page: p } }
--- The walk of that function's MIR, over ANY record, request and answer: it says nothing of the crate, and can be copied as it stands. Whoever calls `once` passes and gets plain values, and is covered.
---     onceFn       the function's MIR. `refl` shows that it is the crate's `code.function`
+--     pub fn lend(page: Page, request: Request) -> Outcome { let mut p = page; let a = apply(&mut p, request); Outcome { answer: a, page: p } }
+-- The walk of that function's MIR, over any record, request and answer; a crate cites it at its own types. Whoever calls `lend` passes and gets plain values, and needs no walk.
+--     lendFn       the function's MIR. `refl` shows that it is the crate's `code.function`
 --     walk         the local is lent for a lifetime that is made for the call; the lifetime is ended, and the local comes back at the value that the callee's contract says was its last
 -- Assumes `Given`.
 use mathlib.Core.Path.{refl, ap}
@@ -38,8 +38,8 @@ outTy ν τR τP = tyStruct ν (tcons τR (tcons τP tnil))
 
 -- the function's MIR, over the callee's key, the outcome's name, and the types of the record (by value, and as it is written behind a reference), of the request and of the answer
 -- the locals: the result, page, request, p, a, the reference, and a copy of p
-abbrev pub onceFn : Name → Sym → Ty → Ty → Ty → Ty → Fn
-onceFn f ν τP ωP τQ τR = record {
+abbrev pub lendFn : Name → Sym → Ty → Ty → Ty → Ty → Fn
+lendFn f ν τP ωP τQ τR = record {
   lifetimes = 0;
   outlives = [];
   params = 2;
@@ -80,9 +80,9 @@ module _ {M : Type 1} (𝓤 : URA M) (H : Heap 𝓤) (A : Atoms 𝓤) (W : Given
     holds : (v : Val) (a : R .D) → shadow (R .own a (v ∷ [])) → Holds 𝓤 H A R a
     holds v a is = its-own 𝓤 H A R a _ is
 
-    pub walk : ent 𝓤 (emp 𝓤) (WpFn 𝓤 H C Λ (onceFn f ν (P .mir) (pointee (P .written)) (Q .mir) (R .mir)) (P .val h ∷ Q .val n ∷ []) Post)
+    pub walk : ent 𝓤 (emp 𝓤) (WpFn 𝓤 H C Λ (lendFn f ν (P .mir) (pointee (P .written)) (Q .mir) (R .mir)) (P .val h ∷ Q .val n ∷ []) Post)
     walk =
-        qed W [] ∵ enter ! C Λ (onceFn f ν (P .mir) (pointee (P .written)) (Q .mir) (R .mir)) (P .val h ∷ Q .val n ∷ []) Post $
+        qed W [] ∵ enter ! C Λ (lendFn f ν (P .mir) (pointee (P .written)) (Q .mir) (R .mir)) (P .val h ∷ Q .val n ∷ []) Post $
         alloc1 ! (λ l₀. alloc1 ! (λ l₁. alloc1 ! (λ l₂. alloc1 ! (λ l₃. alloc1 ! (λ l₄. alloc1 ! (λ l₅. alloc1 ! (λ l₆. alloc0 ! $ params1 ! $
         pass1 ! (init ! 10 refl (P .typed h _ was .0)) $ pass1 ! (init ! 8 refl (Q .typed n _ asked .0)) $ pass0 ! $
         assigns ! (of-opd ! (load ! (from ! (stop !)) (look ! 10 refl))) (from ! (stop !)) (init ! 6 refl (P .typed h _ was .0)) $

@@ -15,6 +15,7 @@ use Rattle.steps.specs.declared.Answer.{Answer}
 use Rattle.steps.specs.declared.Verdict.{Verdict}
 use Rattle.steps.specs.declared.Request.{Request}
 use Rattle.steps.specs.Answers.{answerNumber, withdraws, answerValue}
+use Rattle.steps.proofs.Verdicts.{andThen, verdict-append}
 use Rattle.steps.specs.Premises.{verdict}
 use Rattle.steps.specs.Requests.{isStep, fieldsFit, bucketFits, formal, judged}
 use Rattle.wire.specs.Answers.{lineOf}
@@ -45,14 +46,10 @@ answer-failed (Verdict.Failed other) why e = cc
 -- ---- premises that come after others
 -- they decide where those before hold, and are not looked at elsewhere
 pub then-next : (ps qs : List (Refusal × Bool)) → verdict ps ≡ Verdict.Passed → verdict (ps ++ qs) ≡ verdict qs
-then-next [] qs e = refl
-then-next ((why, true) ∷ ps) qs e = then-next ps qs e
-then-next ((why, false) ∷ ps) qs e = absurd (let z : _≡_ {A = ℕ} 0 1 = cc in omega arith)
+then-next ps qs e = verdict-append ps qs ∙ ap (λ (v : Verdict). andThen v (verdict qs)) e
 
 pub stops-first : (ps qs : List (Refusal × Bool)) (why : Refusal) → verdict ps ≡ Verdict.Failed why → verdict (ps ++ qs) ≡ Verdict.Failed why
-stops-first [] qs why e = absurd (let z : _≡_ {A = ℕ} 0 1 = cc in omega arith)
-stops-first ((first, true) ∷ ps) qs why e = stops-first ps qs why e
-stops-first ((first, false) ∷ ps) qs why e = e
+stops-first ps qs why e = verdict-append ps qs ∙ ap (λ (v : Verdict). andThen v (verdict qs)) e
 
 -- where all hold, those before do
 pub holds-before : (ps qs : List (Refusal × Bool)) → verdict (ps ++ qs) ≡ Verdict.Passed → verdict ps ≡ Verdict.Passed

@@ -1,4 +1,4 @@
--- `lock::apply` meets its contract: a walk of its MIR, by hand. The walk itself is `Lent.antt`'s, over any record, request and answer. Here stand what this record, request and answer are to it,
+-- `lock::apply` meets its contract: a walk of its MIR, by hand. The walk itself is that of crates/walks (Lent.antt), over any record, request and answer. Here stand what this record, request and answer are to it,
 -- what the call of `step` asks and gives back, and what is had at exit. All that the proof knows of `step` is that it meets its contract.
 -- Assumes nothing.
 use mathlib.Core.Path.{_≡_, refl, ap}
@@ -78,7 +78,7 @@ module _ {M : Type 1} (𝓤 : URA M) (H : Heap 𝓤) (A : Atoms 𝓤) (at-mem : 
   abbrev Step : Contract 𝓤
   Step = tripleOf 𝓤 H A step.signature (step.spec 𝓤 H A at-mem run)
 
--- the types, as `Lent.antt` takes them
+-- the types, as the walk takes them
 module _ {M : Type 1} (𝓤 : URA M) (H : Heap 𝓤) (A : Atoms 𝓤) (W : Given 𝓤 H A) where
   abbrev page-kind : K.Kind 𝓤 H A
   page-kind = K.struct-kind 𝓤 H A W P.the-type P′.the-laws P′.the-plain

@@ -1,4 +1,4 @@
--- `lock::lend` meets its contract: a walk of its MIR, by hand. The walk itself is `Loan.antt`'s, over any record, request and answer. Here stand what the call of `apply` asks and gives back, and what is had at exit.
+-- `lock::lend` meets its contract: a walk of its MIR, by hand. The walk itself is that of crates/walks (Loan.antt), over any record, request and answer. Here stand what the call of `apply` asks and gives back, and what is had at exit.
 -- All that the proof knows of `apply` is that it meets its contract.
 -- Assumes nothing.
 use mathlib.Core.Path.{_≡_, refl}
@@ -74,7 +74,7 @@ module _ {M : Type 1} (𝓤 : URA M) (H : Heap 𝓤) (A : Atoms 𝓤) (at-mem : 
   abbrev Apply : Contract 𝓤
   Apply = tripleOf 𝓤 H A apply.signature (apply.spec 𝓤 H A at-mem run)
 
--- the types, as `Loan.antt` takes them
+-- the types, as the walk takes them
 module _ {M : Type 1} (𝓤 : URA M) (H : Heap 𝓤) (A : Atoms 𝓤) (W : Given 𝓤 H A) where
   abbrev page-kind : K.Kind 𝓤 H A
   page-kind = K.struct-kind 𝓤 H A W P.the-type P′.the-laws P′.the-plain
