@@ -1,6 +1,4 @@
 -- The worked cases, the exhibits and the flag premises, each one computed test over its whole table. Assumes nothing.
-use Prim.Native.Nat.{ℕ}
-use mathlib.Core.Bool.{Bool, _&&_}
 use lib.Dec.{T}
 use Rattle.readers.specs.Lists.{all}
 use Rattle.readers.specs.Listed.{noReaders, pushed, putAt, removedAt}

@@ -1,9 +1,7 @@
 -- Demand 2, proved: the lock's `exact`, with soundness and form as premises, and the round trips of `wire`. Assumes nothing.
-use mathlib.Core.Path.{_≡_}
-use mathlib.Core.Logic.{_↔_}
-use Rattle.lock.proofs.Exact.{Allowed, exact}
+use Rattle.lock.proofs.Exact.{exact}
 use Rattle.wire.proofs.Trips.{write-read, read-write, accepts-written}
-use Rattle.demands.specs.Demand2.{Permitted, Demand2, Demand2Bytes}
+use Rattle.demands.specs.Demand2.{Demand2, Demand2Bytes}
 
 pub demand2 : Demand2
 demand2 p p′ q out sound formed = (

@@ -1,12 +1,11 @@
 -- Demand 3, proved: the history tells of counts, storage and the values handed out (proofs/Told.antt); soundness carries
 -- storage's value to every holder, and shuts readers and the archive out while the page is out. Assumes nothing.
-use Prim.Native.Nat.{ℕ, _+_, _<_}
-use mathlib.Core.Path.{_≡_, refl, sym, ap, _∙_, subst}
+use Prim.Native.Nat.{ℕ}
+use mathlib.Core.Path.{_≡_, refl, sym, ap, _∙_}
 use mathlib.Core.Bool.{Bool, true, false, not, cond, _&&_, _||_}
 use mathlib.Core.List.{List, []}
 use native.Mathlib.Omega.{arith}
-use lib.Dec.{T, eqb, eqb→eq}
-use lib.ListN.{length, getD}
+use lib.Dec.{T, eqb}
 use Rattle.kinds.specs.declared.Count.{Count}
 use Rattle.kinds.specs.declared.Phase.{Phase}
 use Rattle.kinds.specs.declared.Reader.{Reader}
@@ -16,15 +15,14 @@ use Rattle.readers.specs.Listed.{live, blankReader}
 use Rattle.readers.proofs.Lists.{all-at}
 use Rattle.page_record.specs.declared.Head.{Head}
 use Rattle.page_record.specs.declared.Page.{Page}
-use Rattle.page_record.specs.Holders.{isStored, holds, isClaim, isAwait, isPending, isEditing, excVisited, excValue}
+use Rattle.page_record.specs.Holders.{isStored, isClaim, isAwait, isPending, isEditing, excVisited, excValue}
 use Rattle.kinds.specs.Limits.{buckets}
 use Rattle.kinds.specs.Numbers.{phaseNumber}
 use Rattle.page_record.specs.Pages.{headOf, freshPage}
-use Rattle.page_record.specs.Rules.{soundOf, phaseValid}
-use Rattle.page_record.specs.Facts.{Sound, headSound}
+use Rattle.page_record.specs.Facts.{Sound}
 use Rattle.page_record.specs.Shapes.{Shape, unmapped, waiting, counted, loaded, available, claimed, writeback, writebackClaimed, writebackAwait, await, pending, editing, headAt, valid}
 use Rattle.page_record.proofs.Shapes.{by-shape, is-holding}
-use Rattle.page_record.proofs.Known.{passing, holding, hold-iff, valid-phase, readerPending, listed-valid, closed-pending}
+use Rattle.page_record.proofs.Known.{hold-iff, valid-phase, readerPending, listed-valid, closed-pending}
 use Rattle.steps.specs.declared.Request.{Request}
 use Rattle.demands.specs.History.{Event, after, history, lastPut, lastWithdrew}
 use Rattle.demands.specs.Demand3.{Listed, Demand3}

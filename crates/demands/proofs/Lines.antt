@@ -2,7 +2,7 @@
 -- in the same order (`lines-told`), and what demand 3 says holds of the page that the run leaves (`demand3-run`).
 -- Assumes nothing.
 use Prim.Native.Nat.{ℕ}
-use mathlib.Core.Path.{_≡_, refl, sym, ap, _∙_, subst}
+use mathlib.Core.Path.{_≡_, refl, sym, ap, _∙_}
 use mathlib.Core.List.{List, [], _∷_, _++_, append-assoc, append-nil}
 use lib.Dec.{T}
 use lib.ListN.{length, drop}
@@ -12,21 +12,18 @@ use Rattle.page_record.specs.Rules.{soundOf}
 use Rattle.page_record.proofs.FreshPage.{fresh-sound}
 use Rattle.page_record.proofs.Tested.{facts}
 use Rattle.steps.specs.declared.Answer.{Answer}
-use Rattle.steps.specs.declared.Refusal.{Refusal}
 use Rattle.steps.specs.declared.Request.{Request}
 use Rattle.steps.specs.Premises.{verdict}
-use Rattle.lock.specs.declared.Outcome.{Outcome}
-use Rattle.lock.specs.Step.{stepOf}
 use Rattle.lock.proofs.Keeps.{step-keeps}
 use Rattle.wire.specs.declared.Reading.{Reading}
 use Rattle.wire.specs.Answers.{lineOf}
 use Rattle.wire.specs.Requests.{fieldsOf, readable, readOf}
 use Rattle.wire.proofs.Premises.{read-passed}
-use Rattle.replay.specs.Turns.{turnOf, refusedFor}
+use Rattle.replay.specs.Turns.{turnOf}
 use Rattle.replay.specs.Run.{requestsOf, pageAfter, linesOf, ranOf, answersOf}
 use Rattle.replay.proofs.Pages.{turn-read, turn-refused}
 use Rattle.replay.proofs.Lines.{answers-are, page-end}
-use Rattle.demands.specs.History.{Event, event, lineEvent, runHistory, answerLines}
+use Rattle.demands.specs.History.{Event, lineEvent, runHistory, answerLines}
 use Rattle.demands.specs.Demand3.{Demand3}
 use Rattle.demands.proofs.Told.{Told, refused-tells, step-tells, fresh-told}
 use Rattle.demands.proofs.Demand3.{demanded}

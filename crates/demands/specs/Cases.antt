@@ -1,11 +1,10 @@
 -- Document 01's worked cases A to H as one table, and rows of our own where soundness and demand 3 see nothing: under which
 -- flags a flag premise refuses. Each row is a request, the answer that is expected, and what is said of the record then.
 use Prim.Native.Nat.{ℕ}
-use mathlib.Core.Bool.{Bool, true, false, not, cond, _&&_, Bool·beq}
+use mathlib.Core.Bool.{Bool, true, false, not, _&&_, Bool·beq}
 use mathlib.Core.List.{List, [], _∷_, _++_}
 use lib.Dec.{eqb}
 use Rattle.kinds.specs.Numbers.{flagNumber, excNumber, loadingNumber, writebackNumber, phaseNumber}
-use Rattle.kinds.specs.declared.Bucket.{Bucket}
 use Rattle.kinds.specs.declared.Flag.{Flag}
 use Rattle.kinds.specs.declared.Phase.{Phase}
 use Rattle.kinds.specs.declared.Reader.{Reader}

@@ -2,7 +2,7 @@
 -- the list of requests with the answers that were given, the newest first, so that "the latest" is the first one found.
 use Prim.Native.Nat.{ℕ, _+_}
 use mathlib.Core.Path.{_≡_}
-use mathlib.Core.Bool.{Bool, true, false, cond, _&&_, _||_}
+use mathlib.Core.Bool.{Bool, true, false, cond, _&&_}
 use mathlib.Core.List.{List, [], _∷_, _++_}
 use lib.Dec.{T, eqb}
 use Rattle.kinds.specs.declared.MaybeBucket.{MaybeBucket}

@@ -2,8 +2,8 @@
 -- premises apart (`ran`); then each step has its constructor, line by line, in the source's order. Soundness is used wherever
 -- the source takes something for granted (MoveFacts), and for `as nat`: a reader that is listed, and a loader that has a
 -- bucket, is counted. Assumes nothing.
-use Prim.Native.Nat.{ℕ, zero, suc, _+_, _-_, _≤_, _<_}
-use mathlib.Core.Path.{_≡_, refl, ap, _∙_, subst}
+use Prim.Native.Nat.{ℕ, _+_, _-_, _≤_, _<_}
+use mathlib.Core.Path.{_≡_, refl, ap, _∙_}
 use mathlib.Core.Logic.{_≢_}
 use mathlib.Core.Bool.{Bool, true, false, cond}
 use mathlib.Core.List.{List}

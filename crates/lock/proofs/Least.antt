@@ -10,8 +10,8 @@ use mathlib.Core.List.{List, [], _∷_, map}
 use native.Mathlib.Omega.{arith}
 use native.Mathlib.Nat.{not-suc-le-zero, le-of-suc-le-suc}
 use lib.Dec.{T, eqb, ltb, leb, leb→le}
-use lib.ListN.{getD, drop}
-use borrow.Author.Tests.{lt-ltb, le-ltb, le-leb, lt-leb, eq-eqb, ne-eqb, leb-true, leb-false, ltb-true, ltb-false, eqb-true, eqb-false}
+use lib.ListN.{drop}
+use borrow.Author.Tests.{lt-ltb, le-ltb, le-leb, lt-leb, ne-eqb, leb-true, leb-false, ltb-true, ltb-false, eqb-true, eqb-false}
 use Rattle.kinds.specs.Flags.{isAvailable, claimable, writebackDone, isUnmapped, openToReaders, notLoading}
 use Rattle.kinds.specs.declared.Flag.{Flag}
 use Rattle.kinds.specs.declared.Reader.{Reader}

@@ -1,6 +1,6 @@
 -- What the ⇒ half needs to know of a head: what the source takes for granted and soundness shows, read off the twelve shapes: that `get_Some_0` finds a value, that no arm
 -- `assert false` is reached, that an `add` finds its place free and a `deposit` storage out. Assumes nothing.
-use mathlib.Core.Path.{_≡_, refl}
+use mathlib.Core.Path.{_≡_}
 use mathlib.Core.Logic.{_⊎_, inl, inr}
 use mathlib.Core.Bool.{true, false, not}
 use mathlib.Core.List.{List}

@@ -10,7 +10,7 @@ use native.Mathlib.Omega.{arith}
 use native.Mathlib.Numerals.{add-one}
 use lib.Dec.{T, eqb, leb, leb→le}
 use lib.ListN.{length, take, drop, getD, set, length-set}
-use lib.Seq.{split-at, set-split, getD-set-same, getD-set-other, ext-getD}
+use lib.Seq.{split-at, set-split, ext-getD}
 use borrow.Author.Tests.{eqb-true, eqb-false, eq-eqb, ne-eqb}
 use Rattle.kinds.specs.Limits.{buckets, capacity}
 use Rattle.kinds.specs.Flags.{openToReaders}

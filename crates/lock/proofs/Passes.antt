@@ -1,6 +1,6 @@
 -- A list of premises of which one fails can't pass. A request that is judged well formed has a bucket from 0 to 3, whether
 -- its step takes one or not. Assumes nothing.
-use Prim.Native.Nat.{ℕ, _<_}
+use Prim.Native.Nat.{_<_}
 use mathlib.Core.Path.{_≡_}
 use mathlib.Core.Bool.{Bool, true, false, not, cond, _&&_, _||_}
 use mathlib.Core.List.{List, [], _∷_}
@@ -11,7 +11,7 @@ use Rattle.readers.proofs.Tests.{halves}
 use Rattle.steps.specs.declared.Refusal.{Refusal}
 use Rattle.steps.specs.declared.Verdict.{Verdict}
 use Rattle.steps.specs.declared.Request.{Request}
-use Rattle.steps.specs.Premises.{verdict, Passes}
+use Rattle.steps.specs.Premises.{Passes}
 use Rattle.steps.proofs.Verdicts.{passed}
 use Rattle.steps.specs.Requests.{takesBucket, takesClean, takesValue, formal, judged}
 

@@ -33,7 +33,6 @@ use denote.Triple.Clauses.{ensured, lasts}
 use denote.Exit.{yes}
 use Rattle.lock.specs.Step.{stepOf}
 use Rattle.page_record.specs.declared.Page.{Page}
-use Rattle.lock.specs.declared.Outcome.{Outcome}
 use Rattle.steps.specs.declared.Request.{Request}
 use Rattle.steps.specs.declared.Answer.{Answer}
 use Rattle.walks.proofs.Kind as K
