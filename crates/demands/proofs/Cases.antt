@@ -1,6 +1,6 @@
 -- The worked cases, the exhibits and the flag premises, each one computed test over its whole table. Assumes nothing.
 use lib.Dec.{T}
-use Rattle.readers.specs.Lists.{all}
+use Rattle.readers.specs.Lists.{every}
 use Rattle.readers.specs.Listed.{noReaders, pushed, putAt, removedAt}
 use Rattle.page_record.specs.Pages.{freshPage}
 use Rattle.page_record.specs.Rules.{soundOf, lowestBroken}
@@ -15,16 +15,16 @@ unfolding stepOf lookFor editedIn judged decideOf soughtOf soundOf lowestBroken 
 worked = tt
 
 -- a sound record for each of the eleven flags
-pub flags-exhibited : T (all exhibited flags)
+pub flags-exhibited : T (every exhibited flags)
 unfolding stepOf lookFor editedIn judged decideOf soughtOf soundOf lowestBroken noReaders pushed putAt removedAt freshPage
 flags-exhibited = tt
 
 -- a sound record for each kind of holder
-pub holders-exhibited : T (all shown holders)
+pub holders-exhibited : T (every shown holders)
 unfolding stepOf lookFor editedIn judged decideOf soughtOf soundOf lowestBroken noReaders pushed putAt removedAt freshPage
 holders-exhibited = tt
 
 -- each flag premise refuses under just the flags that document 01 shuts out
-pub flags-refused : T (all refusesRightly premises)
+pub flags-refused : T (every refusesRightly premises)
 unfolding stepOf lookFor editedIn judged decideOf soughtOf soundOf lowestBroken noReaders pushed putAt removedAt freshPage
 flags-refused = tt

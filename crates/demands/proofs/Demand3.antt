@@ -12,7 +12,7 @@ use Rattle.kinds.specs.declared.Reader.{Reader}
 use Rattle.kinds.specs.declared.Storage.{Storage}
 use Rattle.kinds.specs.declared.WritebackState.{WritebackState}
 use Rattle.readers.specs.Listed.{live, blankReader}
-use Rattle.readers.proofs.Lists.{all-at}
+use Rattle.readers.proofs.Lists.{every-at}
 use Rattle.page_record.specs.declared.Head.{Head}
 use Rattle.page_record.specs.declared.Page.{Page}
 use Rattle.page_record.specs.Holders.{isStored, isClaim, isAwait, isPending, isEditing, excVisited, excValue}
@@ -99,7 +99,7 @@ module _ (fresh : ℕ) (p : Page) (past : List Event) (s : Sound (headOf p) (liv
   shut : (r : Reader) → Listed p r → T (isEditing (p .«exc_state»)) → T (readerPending r)
   shut r at t =
       let l = live (p .readers) in
-      rw (at .stands) at (all-at readerPending l (at .place) blankReader (closed-pending s (or-left (isEditing (p .«exc_state»)) (isPending (p .«exc_state») && eqb (excVisited (p .«exc_state») .0) buckets) t)) (at .below))
+      rw (at .stands) at (every-at readerPending l (at .place) blankReader (closed-pending s (or-left (isEditing (p .«exc_state»)) (isPending (p .«exc_state») && eqb (excVisited (p .«exc_state») .0) buckets) t)) (at .below))
 
   pub demanded : Demand3 fresh p past
   demanded = record {

@@ -4,6 +4,7 @@ use Prim.Native.Nat.{ℕ}
 use mathlib.Core.Path.{_≡_, sym, _∙_}
 use mathlib.Core.Bool.{Bool}
 use mathlib.Core.List.{List}
+use lib.ListN.{take}
 use Rattle.kinds.specs.Flags.{isAvailable, claimable, writebackDone, isUnmapped, openToReaders, notLoading, released, claimed, awaited, lockFlag}
 use Rattle.kinds.specs.Numbers.{flagNumber, phaseNumber}
 use Rattle.kinds.specs.declared.Bucket.{Bucket}
@@ -28,13 +29,14 @@ use Rattle.steps.specs.declared.Verdict.{Verdict}
 use Rattle.steps.specs.declared.Sought.{Sought}
 use Rattle.steps.specs.declared.Decision.{Decision}
 use Rattle.steps.specs.Answers.{refusalNumber, answerNumber, withdraws, answerValue}
-use Rattle.steps.specs.Requests.{judged}
+use Rattle.steps.specs.Requests.{isStep, takesBucket, takesClean, takesValue, judged}
 use Rattle.steps.specs.Decide.{decideOf, soughtOf}
 use Rattle.lock.specs.declared.Outcome.{Outcome}
 use Rattle.lock.specs.Step.{stepOf}
 use Rattle.wire.specs.declared.Reading.{Reading}
 use Rattle.wire.specs.Answers.{lineOf}
 use Rattle.wire.specs.Buffers.{putAnswer, putTo}
+use Rattle.wire.specs.Bytes.{number}
 use Rattle.wire.specs.Requests.{readOf, wroteAnswer, wroteTo}
 use Rattle.replay.specs.Run.{ranOf, answersOf}
 use Rattle.replay.specs.Reply.{replyLength, replyBytes}
@@ -143,6 +145,18 @@ pub census : (p : Page) → Only (λ (r : List (List Count)). r ≡ censusOf p)
 census p = equation (censusOf p)
 
 -- ---- steps
+pub is-step : (n : ℕ) → Only (λ (r : Bool). r ≡ isStep n)
+is-step n = equation (isStep n)
+
+pub takes-bucket : (n : ℕ) → Only (λ (r : Bool). r ≡ takesBucket n)
+takes-bucket n = equation (takesBucket n)
+
+pub takes-clean : (n : ℕ) → Only (λ (r : Bool). r ≡ takesClean n)
+takes-clean n = equation (takesClean n)
+
+pub takes-value : (n : ℕ) → Only (λ (r : Bool). r ≡ takesValue n)
+takes-value n = equation (takesValue n)
+
 pub judge : (q : Request) → Only (λ (r : Verdict). r ≡ judged q)
 judge q = equation (judged q)
 
@@ -176,6 +190,9 @@ pub lend : (p : Page) (q : Request) → Only (λ (r : Outcome). r ≡ stepOf p q
 lend p q = equation (stepOf p q)
 
 -- ---- wire
+pub read-u64 : (bytes : List ℕ) → Only (λ (r : ℕ). r ≡ number (take 8 bytes))
+read-u64 bytes = equation (number (take 8 bytes))
+
 pub read : (bytes : List ℕ) → Only (λ (r : Reading). r ≡ readOf bytes)
 read bytes = equation (readOf bytes)
 

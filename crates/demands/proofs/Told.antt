@@ -1,7 +1,7 @@
 -- What the history tells of a page, step by step: counts, storage, the loader's bucket, and the values handed out. Each step
 -- keeps it (one entry for each number), a refusal changes neither page nor history's sums, so it holds after any requests.
 -- Assumes nothing.
-use Prim.Native.Nat.{ℕ, zero, suc, _+_, _-_, _≤_, _<_}
+use Prim.Native.Nat.{ℕ, zero, suc, _+_, _≤_, _<_}
 use mathlib.Core.Path.{_≡_, refl, sym, _∙_}
 use mathlib.Core.Bool.{Bool, true, false, cond}
 use mathlib.Core.List.{List, [], _∷_}

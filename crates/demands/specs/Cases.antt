@@ -8,7 +8,7 @@ use Rattle.kinds.specs.Numbers.{flagNumber, excNumber, loadingNumber, writeback
 use Rattle.kinds.specs.declared.Flag.{Flag}
 use Rattle.kinds.specs.declared.Phase.{Phase}
 use Rattle.kinds.specs.declared.Reader.{Reader}
-use Rattle.readers.specs.Lists.{all}
+use Rattle.readers.specs.Lists.{every}
 use Rattle.readers.specs.Same.{sameReader}
 use Rattle.readers.specs.Listed.{live}
 use Rattle.page_record.specs.declared.Page.{Page}
@@ -95,7 +95,7 @@ holdsFrom p (r ∷ rs) =
 
 -- each case starts from a fresh record of 0
 abbrev pub allHold : List (List Row) → Bool
-allHold cases = all (holdsFrom (freshPage 0)) cases
+allHold cases = every (holdsFrom (freshPage 0)) cases
 
 abbrev pub ok : Request → List (Page → Bool) → Row
 ok q says = record { request = q; answer = Answer.Accepted; says = says }
@@ -192,12 +192,12 @@ flags =
     ∷ Flag.WritebackAndClaimed ∷ Flag.WritebackAndPendingExcLock ∷ Flag.PendingExcLock ∷ Flag.ExcLockClean ∷ Flag.ExcLockDirty
     ∷ []
 
-abbrev pub pageAt : Flag → Page
-pageAt f = after (freshPage 0) (wayTo f)
+abbrev pub pageUnder : Flag → Page
+pageUnder f = after (freshPage 0) (wayTo f)
 
 -- it is sound and has that flag
 abbrev pub exhibited : Flag → Bool
-exhibited f = soundOf (pageAt f) && flagIs f (pageAt f)
+exhibited f = soundOf (pageUnder f) && flagIs f (pageUnder f)
 
 -- after these requests the record is sound and this is so
 pub record Exhibit : Type 0 where
@@ -211,7 +211,7 @@ abbrev pub editing : List Request
 editing = loaded ++ plain 3 ∷ plain 5 ∷ clean 0 ∷ plain 7 ∷ plain 7 ∷ plain 7 ∷ plain 7 ∷ plain 8 ∷ []
 
 abbrev pub phaseAt : ℕ → Page → Bool
-phaseAt phase p = all (λ (r : Reader). eqb (phaseNumber (r .phase)) phase) (live (p .readers)) && not (eqb (p .readers .len) 0)
+phaseAt phase p = every (λ (r : Reader). eqb (phaseNumber (r .phase)) phase) (live (p .readers)) && not (eqb (p .readers .len) 0)
 
 -- every kind of holder, with and without a bucket where it may have none
 abbrev pub holders : List Exhibit
@@ -266,4 +266,4 @@ premises =
 -- 5 is the answer just under the flags that are not listed
 abbrev pub refusesRightly : Premise → Bool
 refusesRightly r =
-    all (λ f. Bool·beq (eqb (answerNumber (stepOf (pageAt f) (r .request) .answer)) 5) (not (among (r .lets) (flagNumber f)))) flags
+    every (λ f. Bool·beq (eqb (answerNumber (stepOf (pageUnder f) (r .request) .answer)) 5) (not (among (r .lets) (flagNumber f)))) flags

@@ -11,7 +11,7 @@ use Rattle.page_record.specs.References.{refAt}
 use Rattle.steps.specs.declared.Request.{Request}
 use Rattle.steps.specs.declared.Answer.{Answer}
 use Rattle.steps.specs.Answers.{answerNumber, answerValue, withdraws}
-use Rattle.lock.specs.Words.{among}
+use Rattle.lock.specs.Words.{among, raising, puttingIn, handingOut}
 use Rattle.lock.specs.Step.{stepOf}
 use Rattle.wire.specs.Answers.{lineOf}
 use Rattle.wire.specs.Requests.{fieldsOf}
@@ -56,8 +56,8 @@ abbrev pub accepted : List ℕ → Event → Bool
 accepted steps e = eqb (answerNumber (e .answer)) 0 && among steps (e .request .step)
 
 -- it names bucket b
-abbrev pub names : ℕ → Event → Bool
-names b e = eqb (e .request .bucket .0) b
+abbrev pub namesBucket : ℕ → Event → Bool
+namesBucket b e = eqb (e .request .bucket .0) b
 
 -- the bucket that the latest accepted 13 named
 abbrev pub lastCounted : List Event → MaybeBucket
@@ -67,26 +67,26 @@ lastCounted (e ∷ past) = cond (accepted (13 ∷ []) e) (MaybeBucket.At (e .req
 -- arrivals at b: accepted 13, 18 and 19 naming b
 abbrev pub arrivals : ℕ → List Event → ℕ
 arrivals b [] = 0
-arrivals b (e ∷ past) = cond (accepted (13 ∷ 18 ∷ 19 ∷ []) e && names b e) 1 0 + arrivals b past
+arrivals b (e ∷ past) = cond (accepted raising e && namesBucket b e) 1 0 + arrivals b past
 
 -- departures from b: accepted 20, 21, 22 naming b, and accepted 17 where the latest accepted 13 named b
 abbrev pub departures : ℕ → List Event → ℕ
 departures b [] = 0
 departures b (e ∷ past) =
-    cond (accepted (20 ∷ 21 ∷ 22 ∷ []) e && names b e) 1 0
+    cond (accepted (20 ∷ 21 ∷ 22 ∷ []) e && namesBucket b e) 1 0
     + cond (accepted (17 ∷ []) e) (refAt (lastCounted past) b) 0
     + departures b past
 
 -- the last value put in: of the latest accepted 9, 10, 16 or 17, else the fresh value
 abbrev pub lastPut : ℕ → List Event → ℕ
 lastPut fresh [] = fresh
-lastPut fresh (e ∷ past) = cond (accepted (9 ∷ 10 ∷ 16 ∷ 17 ∷ []) e) (e .request .value) (lastPut fresh past)
+lastPut fresh (e ∷ past) = cond (accepted puttingIn e) (e .request .value) (lastPut fresh past)
 
 -- hand-overs are those four and 8, 11, 12: whether the last one was a withdrawal
 abbrev pub lastWithdrew : List Event → Bool
 lastWithdrew [] = false
 lastWithdrew (e ∷ past) =
-    cond (accepted (8 ∷ 11 ∷ 12 ∷ []) e) true (cond (accepted (9 ∷ 10 ∷ 16 ∷ 17 ∷ []) e) false (lastWithdrew past))
+    cond (accepted handingOut e) true (cond (accepted puttingIn e) false (lastWithdrew past))
 
 -- every value that was handed out was the one last put in at that moment
 abbrev pub HandedOut : ℕ → List Event → Type 0

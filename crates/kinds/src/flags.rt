@@ -42,7 +42,7 @@ pub fn claimable(f: Flag) -> bool
     }
 }
 
-// The flag premise of step 6: the archive isn't writing, or no editor waits for it to finish.
+// The flag premise of step 6: neither Writeback nor WritebackAndPendingExcLock.
 pub fn writeback_done(f: Flag) -> bool
     ensures { λ r. ⌜ r ≡ writebackDone f ⌝ }
 {

@@ -36,7 +36,8 @@ use Rattle.steps.specs.Steps.{takeWriteback, releaseWriteback, bucketlessClaim,
 use Rattle.steps.specs.Decide.{unknown}
 use Rattle.lock.specs.Step.{edited, lookFor, decidedOn}
 use Rattle.lock.specs.Moves
-use Rattle.lock.specs.Moves.{RwLock, stateWith, countOf, Elsewhere, Room, answerOf, raises, lists, pending, pending2, obtained}
+use Rattle.lock.specs.Words.{among, raising, listing}
+use Rattle.lock.specs.Moves.{RwLock, stateWith, countOf, Elsewhere, Room, answerOf, pending, pending2, obtained}
 use Rattle.steps.proofs.Verdicts.{passed}
 use Rattle.lock.proofs.MoveLaws.{handed, is-handed, unrefused, stepNo, by-number, Formed, opened, expected, Split, split}
 use Rattle.lock.proofs.Pick.{_&_, pick}
@@ -88,8 +89,8 @@ module _ (h : Head) (l : List Reader) (q : Request) where
       go (Verdict.Failed why) e = record { fits = λ out a. absurd (unrefused why out a) }
 
   -- the limits of the step with this number
-  roomy : (n : ℕ) → q .step ≡ n → (T (raises n) → countOf (stateWith h l) (q .bucket) < ceiling)
-      → (T (lists n) → length l < capacity) → Room (stateWith h l) q
+  roomy : (n : ℕ) → q .step ≡ n → (T (among raising n) → countOf (stateWith h l) (q .bucket) < ceiling)
+      → (T (among listing n) → length l < capacity) → Room (stateWith h l) q
   roomy n e a b = record { under = λ t. a (rw e at t); free = λ t. b (rw e at t) }
 
   module _ (s : Sound h l) (formed : Formed q) where

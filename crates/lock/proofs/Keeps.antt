@@ -25,7 +25,7 @@ use Rattle.page_record.specs.declared.Page.{Page}
 use Rattle.page_record.specs.Pages.{headOf, pageOf}
 use Rattle.page_record.specs.Rules.{soundOf}
 use Rattle.page_record.specs.Facts.{Sound}
-use Rattle.page_record.proofs.Tested.{facts, tested-parts, all-default}
+use Rattle.page_record.proofs.Tested.{facts, tested-parts, every-default}
 use Rattle.steps.specs.declared.Refusal.{Refusal}
 use Rattle.steps.specs.declared.Answer.{Answer}
 use Rattle.steps.specs.declared.Verdict.{Verdict}
@@ -122,7 +122,7 @@ accepting (Answer.Refused why) = false
 
 -- what a step answers where its premises hold is no refusal
 accepts-all : (h : Head) (q : Request) (found : Found) (full : Bool) → T (accepting (stepAt h q found full .answer))
-accepts-all h q found full = all-default (λ (st : Step). accepting (st .answer)) (steps h q found full) (q .step) (unknown h) tt tt
+accepts-all h q found full = every-default (λ (st : Step). accepting (st .answer)) (steps h q found full) (q .step) (unknown h) tt tt
 
 refused-keeps : (p : Page) (st : Step) (v : Verdict) (why : Refusal) → T (accepting (st .answer))
     → settled (headOf p) st v .answer ≡ Answer.Refused why → applied p (settled (headOf p) st v) .page ≡ p

@@ -16,7 +16,7 @@ use Rattle.kinds.specs.Flags.{isAvailable, claimable, writebackDone, isUnmapped
 use Rattle.kinds.specs.declared.Flag.{Flag}
 use Rattle.kinds.specs.declared.Reader.{Reader}
 use Rattle.readers.specs.declared.Found.{Found}
-use Rattle.readers.specs.Lists.{all}
+use Rattle.readers.specs.Lists.{every}
 use Rattle.readers.specs.Same.{sameReader}
 use Rattle.readers.specs.Listed.{findFrom, findIn}
 use Rattle.kinds.specs.Limits.{buckets, capacity, ceiling}
@@ -45,7 +45,7 @@ use Rattle.page_record.proofs.Tested.{facts}
 use Rattle.page_record.proofs.Broken.{FirstFalse, first-false, none-broken}
 use Rattle.readers.proofs.Tests.{is-true, halves}
 use Rattle.lock.proofs.Pick.{Below, _&_, pick}
-use Rattle.lock.specs.Words.{among}
+use Rattle.lock.specs.Words.{among, raising, listing}
 use Rattle.lock.specs.Step.{lookFor, stepOf, stepped}
 use Rattle.lock.specs.Applies.{flagLets, lists, holderThere, bucketTaken, cleanTaken, valueTaken, applies2, applies3, applies4, bucketWrong, visitedWrong, countOther, applying}
 
@@ -135,12 +135,12 @@ premised-tabled true false b v c e r = refl
 premised-tabled false h b v c e r = refl
 
 -- ---- a reader is found just if it is listed
-found-from : (i : ℕ) (l : List Reader) (x : Reader) → isFound (findFrom i l x) ≡ not (all (λ r. not (sameReader r x)) l)
+found-from : (i : ℕ) (l : List Reader) (x : Reader) → isFound (findFrom i l x) ≡ not (every (λ r. not (sameReader r x)) l)
 found-from i [] x = refl
 found-from i (r ∷ rs) x = go (sameReader r x) (found-from (i + 1) rs x)
   where
-    go : (t : Bool) → isFound (findFrom (i + 1) rs x) ≡ not (all (λ r. not (sameReader r x)) rs)
-        → isFound (cond t (Found.At i) (findFrom (i + 1) rs x)) ≡ not (not t && all (λ r. not (sameReader r x)) rs)
+    go : (t : Bool) → isFound (findFrom (i + 1) rs x) ≡ not (every (λ r. not (sameReader r x)) rs)
+        → isFound (cond t (Found.At i) (findFrom (i + 1) rs x)) ≡ not (not t && every (λ r. not (sameReader r x)) rs)
     go true e = refl
     go false e = e
 
@@ -218,7 +218,7 @@ module _ (p : Page) (b : Bucket) (clean value : ℕ) (closed : excVisited (p .«
   Fits n =
       numbered (stepNo n .premises)
       ≡ tabled (flagLets n (p .flag)) (holderThere p (ask n)) (bucketWrong p n) (visitedWrong p n) (countOther p n)
-      (among (13 ∷ 18 ∷ 19 ∷ []) n && atCeiling) (among (9 ∷ 16 ∷ 19 ∷ []) n && isFull)
+      (among raising n && atCeiling) (among listing n && isFull)
 
   abbrev exc-bucket : Bool
   exc-bucket = hasBucket (excBucket (p .«exc_state»))
@@ -511,5 +511,5 @@ pub number-first : (p : Page) (q : Request) (k : ℕ) → answerNumber (stepOf p
 number-first p q k = rw (least-number p q) (first-false (map not (applying p q)) k)
 
 -- and 0 is given just if none applies
-pub number-none : (p : Page) (q : Request) → eqb (answerNumber (stepOf p q .answer)) 0 ≡ all (λ t. t) (map not (applying p q))
+pub number-none : (p : Page) (q : Request) → eqb (answerNumber (stepOf p q .answer)) 0 ≡ every (λ t. t) (map not (applying p q))
 number-none p q = rw (least-number p q) (none-broken 1 (map not (applying p q)) (omega arith))

@@ -21,7 +21,7 @@ use Rattle.readers.specs.declared.Found.{Found}
 use Rattle.readers.specs.Lists.{without}
 use Rattle.readers.specs.Listed.{isAt, countAt}
 use Rattle.readers.proofs.Tests.{to-false, both, halves, and-iff}
-use Rattle.readers.proofs.Lists.{all-mono, all-both, tally-none, tally-push}
+use Rattle.readers.proofs.Lists.{every-mono, every-both, tally-none, tally-push}
 use Rattle.readers.proofs.First.{First}
 use Rattle.page_record.specs.declared.Head.{Head}
 use Rattle.page_record.specs.Holders.{holds, validBucket}
@@ -85,8 +85,8 @@ module _ (m : MaybeBucket) (n : Visited) (clean : Bool) (v : ℕ) (cs : List Cou
       let more : T (leb (n .0 + 1) buckets) = le→leb (n .0 + 1) buckets (omega arith) in
       let away = tally-none (isAt (n .0)) l (none-at s (n .0) k e) in
       sound-of (shaped next cs (both (leb (n .0 + 1) buckets) (validBucket m) more (halves (leb (n .0) buckets) (validBucket m) ok .1)))
-      (all-mono staying (sharedStateValid (headAt next cs)) l closes
-      (all-both (sharedStateValid (headAt (pending m n clean v) cs)) (λ r. not (isAt (n .0) r)) l (s .readers) away))
+      (every-mono staying (sharedStateValid (headAt next cs)) l closes
+      (every-both (sharedStateValid (headAt (pending m n clean v) cs)) (λ r. not (isAt (n .0) r)) l (s .readers) away))
       (s .room) (counts-of s)
 
 -- 16 and 17: with the loader gone, whoever is past the first check may stay

@@ -9,10 +9,10 @@ use lib.ListN.{length, set, length-append, length-set}
 use Rattle.kinds.specs.Limits.{buckets, capacity}
 use Rattle.kinds.specs.declared.Phase.{Phase}
 use Rattle.kinds.specs.declared.Reader.{Reader}
-use Rattle.readers.specs.Lists.{all, without}
+use Rattle.readers.specs.Lists.{every, without}
 use Rattle.readers.specs.Listed.{isAt, countAt, blankReader}
 use Rattle.readers.proofs.Tests.{both}
-use Rattle.readers.proofs.Lists.{length-without, all-mono, all-push, all-put, all-without, tally-put, tally-without}
+use Rattle.readers.proofs.Lists.{length-without, every-mono, every-push, every-put, every-without, tally-put, tally-without}
 use Rattle.readers.proofs.First.{First}
 use Rattle.page_record.specs.declared.Head.{Head}
 use Rattle.page_record.specs.Holders.{holds, noLoad}
@@ -74,12 +74,12 @@ module _ (l : List Reader) (x : Reader) (i : ℕ) (f : First l x i) (b : ℕ) wh
 pub counts-of : {h : Head} {l : List Reader} → Sound h l → Counts (h .«ref_counts») (refsOf h l)
 counts-of s = record { four = s .four; few = s .few; equal = s .counts }
 
-pub sound-of : {h : Head} {l : List Reader} → T (headSound h) → T (all (sharedStateValid h) l) → length l ≤ capacity
+pub sound-of : {h : Head} {l : List Reader} → T (headSound h) → T (every (sharedStateValid h) l) → length l ≤ capacity
     → Counts (h .«ref_counts») (refsOf h l) → Sound h l
 sound-of rules readers room c = record { head = rules; four = c .four; counts = c .equal; readers = readers; few = c .few; room = room }
 
-stayed : (h h′ : Head) (l : List Reader) → Sound h l → Stay h h′ → T (all (sharedStateValid h′) l)
-stayed h h′ l s stay = all-mono (sharedStateValid h) (sharedStateValid h′) l stay (s .readers)
+stayed : (h h′ : Head) (l : List Reader) → Sound h l → Stay h h′ → T (every (sharedStateValid h′) l)
+stayed h h′ l s stay = every-mono (sharedStateValid h) (sharedStateValid h′) l stay (s .readers)
 
 module _ {h h′ : Head} {l : List Reader} (s : Sound h l) (rules : T (headSound h′)) where
   module _ (stay : Stay h h′) where
@@ -88,13 +88,13 @@ module _ {h h′ : Head} {l : List Reader} (s : Sound h l) (rules : T (headSound
 
     pub pushed : (r : Reader) → T (sharedStateValid h′ r) → length l < capacity → Counts (h′ .«ref_counts») (refsOf h′ (l ++ r ∷ []))
         → Sound h′ (l ++ r ∷ [])
-    pushed r t room = sound-of rules (all-push (sharedStateValid h′) l r (stayed h h′ l s stay) t) (simp length-append (omega arith))
+    pushed r t room = sound-of rules (every-push (sharedStateValid h′) l r (stayed h h′ l s stay) t) (simp length-append (omega arith))
 
     pub put : (i : ℕ) (r : Reader) → T (sharedStateValid h′ r) → Counts (h′ .«ref_counts») (refsOf h′ (set l i r)) → Sound h′ (set l i r)
-    put i r t = sound-of rules (all-put (sharedStateValid h′) l i r (stayed h h′ l s stay) t) (rw length-set (s .room))
+    put i r t = sound-of rules (every-put (sharedStateValid h′) l i r (stayed h h′ l s stay) t) (rw length-set (s .room))
 
     pub removed : (i : ℕ) → i < length l → Counts (h′ .«ref_counts») (refsOf h′ (without i l)) → Sound h′ (without i l)
-    removed i k = sound-of rules (all-without (sharedStateValid h′) l i (stayed h h′ l s stay)) (omega (arith, s .room, length-without l i k))
+    removed i k = sound-of rules (every-without (sharedStateValid h′) l i (stayed h h′ l s stay)) (omega (arith, s .room, length-without l i k))
 
   -- Keep, where nobody was past the first check
   pub kept-quiet : ((b : ℕ) → b < buckets → T (passing h b) → ⊥) → Counts (h′ .«ref_counts») (refsOf h′ l) → Sound h′ l

@@ -50,7 +50,7 @@ took : {d : Decision} {l : List Reader} {h′ : Head} {l′ : List Reader} {out 
     → Parts d l h′ l′ out → Accepts d l h′ l′ out
 took p = record {
   answer = p .answer;
-  head = λ i. Shapes.head (p .storage i) (p .flag i) (p .counts i) (p .exc i) (p .loading i) (p .writeback i);
+  head = λ i. Shapes.headWith (p .storage i) (p .flag i) (p .counts i) (p .exc i) (p .loading i) (p .writeback i);
   list = p .list;
 }
 

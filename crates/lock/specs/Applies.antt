@@ -12,7 +12,7 @@ use Rattle.kinds.specs.declared.Bucket.{Bucket}
 use Rattle.kinds.specs.declared.Flag.{Flag}
 use Rattle.kinds.specs.declared.Phase.{Phase}
 use Rattle.kinds.specs.declared.Reader.{Reader}
-use Rattle.readers.specs.Lists.{all}
+use Rattle.readers.specs.Lists.{every}
 use Rattle.readers.specs.Same.{sameReader}
 use Rattle.readers.specs.Listed.{live}
 use Rattle.page_record.specs.declared.Page.{Page}
@@ -21,7 +21,7 @@ use Rattle.page_record.specs.Pages.{numberAt}
 use Rattle.page_record.specs.References.{refAt}
 use Rattle.page_record.specs.Rules.{soundOf}
 use Rattle.steps.specs.declared.Request.{Request}
-use Rattle.lock.specs.Words.{among}
+use Rattle.lock.specs.Words.{among, raising, listing}
 
 -- ---- words
 -- the flag is one of these
@@ -30,7 +30,7 @@ flagIn fs f = among (map flagNumber fs) (flagNumber f)
 
 -- this reader is listed
 abbrev pub lists : List Reader → Phase → Bucket → Bool
-lists l phase bucket = not (all (λ r. not (sameReader r (record { phase = phase; bucket = bucket }))) l)
+lists l phase bucket = not (every (λ r. not (sameReader r (record { phase = phase; bucket = bucket }))) l)
 
 -- ---- document 01's table of steps
 -- the flags under which steps 1, 3, 4, 6, 11, 12, 23 and 24 are let through; the others ask nothing of the flag
@@ -131,11 +131,11 @@ applies9 p q = holderThere p q && countOther p (q .step)
 
 -- 10: the count at b is 31 (13, 18, 19)
 abbrev pub applies10 : Page → Request → Bool
-applies10 p q = among (13 ∷ 18 ∷ 19 ∷ []) (q .step) && eqb (numberAt (p .«ref_counts») (q .bucket .0)) ceiling
+applies10 p q = among raising (q .step) && eqb (numberAt (p .«ref_counts») (q .bucket .0)) ceiling
 
 -- 11: the list holds 64 (9, 16, 19)
 abbrev pub applies11 : Page → Request → Bool
-applies11 p q = among (9 ∷ 16 ∷ 19 ∷ []) (q .step) && eqb (p .readers .len) capacity
+applies11 p q = among listing (q .step) && eqb (p .readers .len) capacity
 
 -- all of them, from 1
 abbrev pub applying : Page → Request → List Bool

@@ -59,7 +59,7 @@ use Rattle.page_record.specs.declared.Page.{Page}
 use Rattle.page_record.specs.Pages.{headOf}
 use Rattle.steps.specs.declared.Answer.{Answer}
 use Rattle.steps.specs.declared.Request.{Request}
-use Rattle.lock.specs.Words.{among}
+use Rattle.lock.specs.Words.{among, raising, listing}
 
 -- ---- the source's words
 -- fields { .. }, line 107; the multiset of readers is a list
@@ -413,16 +413,9 @@ pub data Moves (pre : RwLock) (q : Request) (post : RwLock) (out : Storage) : Ty
       → Moves pre q post out
 
 -- ---- what the source doesn't have: the limits
--- the steps that add one to the count at the request's bucket, and the steps that add a reader
-abbrev pub raises : ℕ → Bool
-raises n = among (13 ∷ 18 ∷ 19 ∷ []) n
-
-abbrev pub lists : ℕ → Bool
-lists n = among (9 ∷ 16 ∷ 19 ∷ []) n
-
 pub record Room (pre : RwLock) (q : Request) : Type 0 where
-  pub under : T (raises (q .step)) → countOf pre (q .bucket) < ceiling
-  pub free : T (lists (q .step)) → length (pre .shared-state) < capacity
+  pub under : T (among raising (q .step)) → countOf pre (q .bucket) < ceiling
+  pub free : T (among listing (q .step)) → length (pre .shared-state) < capacity
 
 -- ---- the answer that hands this out
 abbrev pub answerOf : Storage → Answer

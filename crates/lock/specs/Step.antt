@@ -1,5 +1,4 @@
 -- One request on one page: the page is judged (1), then the request's fields (2 to 4), then the step's own premises.
-use Prim.Native.Nat.{_+_}
 use mathlib.Core.Bool.{cond}
 use mathlib.Core.List.{List, [], _∷_, _++_}
 use lib.Dec.{leb}

@@ -1,4 +1,4 @@
--- A word that several statements use.
+-- Words that several statements use: steps by what they do.
 use Prim.Native.Nat.{ℕ}
 use mathlib.Core.Bool.{Bool, false, _||_}
 use mathlib.Core.List.{List, [], _∷_}
@@ -8,3 +8,20 @@ use lib.Dec.{eqb}
 abbrev pub among : List ℕ → ℕ → Bool
 among [] n = false
 among (x ∷ xs) n = eqb n x || among xs n
+
+-- ---- steps by their numbers
+-- one more at the bucket that the request names
+abbrev pub raising : List ℕ
+raising = 13 ∷ 18 ∷ 19 ∷ []
+
+-- one more reader in the list
+abbrev pub listing : List ℕ
+listing = 9 ∷ 16 ∷ 19 ∷ []
+
+-- the page is put in
+abbrev pub puttingIn : List ℕ
+puttingIn = 9 ∷ 10 ∷ 16 ∷ 17 ∷ []
+
+-- the page is handed out
+abbrev pub handingOut : List ℕ
+handingOut = 8 ∷ 11 ∷ 12 ∷ []

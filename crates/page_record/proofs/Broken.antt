@@ -2,7 +2,7 @@
 -- (`sound-broken`); the number is k + 1 just if the rule at place k is the first that fails (`broken-first`). Each is an
 -- instance of a law over any list of tests. Assumes nothing.
 use Prim.Native.Nat.{ℕ, zero, suc, _+_, _<_}
-use mathlib.Core.Path.{_≡_, refl, sym, subst, _∙_}
+use mathlib.Core.Path.{_≡_, refl, subst}
 use mathlib.Core.Logic.{_↔_}
 use mathlib.Core.Bool.{Bool, true, false}
 use mathlib.Core.List.{List, [], _∷_}
@@ -10,7 +10,7 @@ use native.Mathlib.Omega.{arith}
 use borrow.Author.Tests.{eqb-true, eq-eqb, ne-eqb}
 use lib.Dec.{eqb}
 use lib.ListN.{getD}
-use Rattle.readers.specs.Lists.{all}
+use Rattle.readers.specs.Lists.{every}
 use Rattle.page_record.specs.declared.Page.{Page}
 use Rattle.page_record.specs.Pages.{headOf}
 use Rattle.page_record.specs.Rules.{rules, firstBroken, lowestBroken, soundOf}
@@ -22,7 +22,7 @@ pub record FirstFalse (ts : List Bool) (k : ℕ) : Type 0 where
   pub earlier : (i : ℕ) → i < k → getD ts i true ≡ true
 
 -- no test fails just if all pass
-pub none-broken : (n : ℕ) (ts : List Bool) → 0 < n → eqb (firstBroken n ts) 0 ≡ all (λ t. t) ts
+pub none-broken : (n : ℕ) (ts : List Bool) → 0 < n → eqb (firstBroken n ts) 0 ≡ every (λ t. t) ts
 none-broken n [] h = refl
 none-broken n (true ∷ ts) h = none-broken (n + 1) ts (omega arith)
 none-broken n (false ∷ ts) h = ne-eqb n 0 (λ e. omega arith)
@@ -68,7 +68,7 @@ first-false ts k = (there, λ f. omega (arith, to 1 ts k f))
 
 -- ---- pages
 module _ (p : Page) where
-  pub sound-all : soundOf p ≡ all (λ t. t) (rules (headOf p) (p .readers))
+  pub sound-all : soundOf p ≡ every (λ t. t) (rules (headOf p) (p .readers))
   unfolding soundOf lowestBroken
   sound-all = none-broken 1 (rules (headOf p) (p .readers)) (omega arith)
 

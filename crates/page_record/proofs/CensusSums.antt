@@ -2,7 +2,7 @@
 -- sound page each row of the census sums to the shared references at its bucket (`census-sums`), and for one that is not
 -- sound every entry is 0 (`census-zeros`). Assumes nothing.
 use Prim.Native.Nat.{ℕ, zero, suc, _+_, _<_}
-use mathlib.Core.Path.{_≡_, refl, _∙_}
+use mathlib.Core.Path.{_≡_, refl}
 use mathlib.Core.Bool.{Bool, true, false, cond, _&&_}
 use mathlib.Core.List.{List, [], _∷_}
 use native.Mathlib.Omega.{arith}
@@ -12,7 +12,7 @@ use Rattle.kinds.specs.Limits.{buckets}
 use Rattle.kinds.specs.Numbers.{phaseNumber}
 use Rattle.kinds.specs.declared.Phase.{Phase}
 use Rattle.kinds.specs.declared.Reader.{Reader}
-use Rattle.readers.specs.Listed.{live, isAt, isIn, countAt, countIn}
+use Rattle.readers.specs.Listed.{live, isAt, countAt, countIn}
 use Rattle.readers.proofs.Tests.{to-true}
 use Rattle.page_record.specs.declared.Page.{Page}
 use Rattle.page_record.specs.Pages.{numberAt}

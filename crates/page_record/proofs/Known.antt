@@ -20,10 +20,10 @@ use Rattle.kinds.specs.declared.Reader.{Reader}
 use Rattle.kinds.specs.declared.ExcState.{ExcState}
 use Rattle.kinds.specs.declared.LoadingState.{LoadingState}
 use Rattle.kinds.specs.declared.WritebackState.{WritebackState}
-use Rattle.readers.specs.Lists.{all}
+use Rattle.readers.specs.Lists.{every}
 use Rattle.readers.specs.Listed.{isAt, countAt, blankReader}
 use Rattle.readers.proofs.Tests.{both, halves, and-iff}
-use Rattle.readers.proofs.Lists.{all-mono, all-at, tally-positive}
+use Rattle.readers.proofs.Lists.{every-mono, every-at, tally-positive}
 use Rattle.readers.proofs.First.{First}
 use Rattle.page_record.specs.declared.Head.{Head}
 use Rattle.page_record.specs.Holders.{holds, valueOf, isClaim, isAwait, isPending, isEditing, excBucket, excVisited, excValue, noLoad, isBefore, noWriteback}
@@ -144,7 +144,7 @@ shut-pending (Phase.Obtained v) pass hold shut past t = absurd (shut (past v t))
 module _ {h : Head} {l : List Reader} (s : Sound h l) where
   -- a listed reader keeps rule 7
   pub listed-valid : (i : ℕ) → i < length l → T (sharedStateValid h (getD l i blankReader))
-  listed-valid i k = all-at (sharedStateValid h) l i blankReader (s .readers) k
+  listed-valid i k = every-at (sharedStateValid h) l i blankReader (s .readers) k
 
   pub found-valid : (x : Reader) (i : ℕ) → First l x i → T (sharedStateValid h x)
   found-valid x i f = subst (λ (r : Reader). T (sharedStateValid h r)) (f .equal) (listed-valid i (f .inside))
@@ -164,9 +164,9 @@ module _ {h : Head} {l : List Reader} (s : Sound h l) where
       known s .passing-in b (both (notLoading (h .flag)) (passing h b) t (rw e at (valid-phase h r (listed-valid i k))))
 
   -- an editor that has closed every bucket: no reader is Pending2 or Obtained (rules 7 and 8)
-  pub closed-pending : T (isClosed (h .«exc_state»)) → T (all readerPending l)
+  pub closed-pending : T (isClosed (h .«exc_state»)) → T (every readerPending l)
   closed-pending c =
-      all-mono (sharedStateValid h) readerPending l
+      every-mono (sharedStateValid h) readerPending l
       (λ r t.
       let b = r .bucket .0 in
       shut-pending (r .phase) (passing h b) (holding h b) (closed-passing h b c (valid-bucket h r t)) (λ v u. hold-iff h b v .0 u .2)

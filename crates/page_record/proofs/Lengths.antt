@@ -1,4 +1,4 @@
--- What the lengths of the record's arrays give: a test of all four entries is four tests (`all-four`), no count of listed
+-- What the lengths of the record's arrays give: a test of all four entries is four tests (`every-four`), no count of listed
 -- readers is above the capacity (`tally-live`), and so the references at a bucket are few (`refs-le`). Assumes nothing.
 use Prim.Native.Nat.{ℕ, _+_, _≤_}
 use mathlib.Core.Path.{_≡_}
@@ -13,21 +13,21 @@ use Rattle.kinds.specs.declared.Reader.{Reader}
 use Rattle.kinds.specs.declared.ExcState.{ExcState}
 use Rattle.kinds.specs.declared.LoadingState.{LoadingState}
 use Rattle.readers.specs.declared.Readers.{Readers}
-use Rattle.readers.specs.Lists.{tally, all}
+use Rattle.readers.specs.Lists.{tally, every}
 use Rattle.readers.specs.Listed.{live, isAt}
 use Rattle.readers.proofs.Lists.{tally-le}
 use Rattle.page_record.specs.Holders.{excBucket, loadingBucket}
 use Rattle.page_record.specs.References.{refAt, countAllRefs}
 
 -- ---- an array of four
-pub all-four : {A : Type 0} (test : A → Bool) (d : A) (l : List A) → length l ≡ buckets
-    → all test l ≡ (test (getD l 0 d) && test (getD l 1 d) && test (getD l 2 d) && test (getD l 3 d))
-all-four test d [] e = absurd (omega arith)
-all-four test d (w ∷ []) e = absurd (omega arith)
-all-four test d (w ∷ x ∷ []) e = absurd (omega arith)
-all-four test d (w ∷ x ∷ y ∷ []) e = absurd (omega arith)
-all-four test d (w ∷ x ∷ y ∷ z ∷ []) e = simp (and-assoc, and-true)
-all-four test d (w ∷ x ∷ y ∷ z ∷ v ∷ l) e = absurd (omega arith)
+pub every-four : {A : Type 0} (test : A → Bool) (d : A) (l : List A) → length l ≡ buckets
+    → every test l ≡ (test (getD l 0 d) && test (getD l 1 d) && test (getD l 2 d) && test (getD l 3 d))
+every-four test d [] e = absurd (omega arith)
+every-four test d (w ∷ []) e = absurd (omega arith)
+every-four test d (w ∷ x ∷ []) e = absurd (omega arith)
+every-four test d (w ∷ x ∷ y ∷ []) e = absurd (omega arith)
+every-four test d (w ∷ x ∷ y ∷ z ∷ []) e = simp (and-assoc, and-true)
+every-four test d (w ∷ x ∷ y ∷ z ∷ v ∷ l) e = absurd (omega arith)
 
 -- ---- the references at a bucket
 one-le : (t : Bool) → cond t 1 0 ≤ 1

@@ -23,7 +23,7 @@ use Rattle.page_record.specs.declared.Head.{Head}
 use Rattle.page_record.specs.Holders.{isStored, holds, valueOf, hasBucket, validBucket, bucketOf, noExc, isClaim, isAwait, isPending, isEditing, isLocked, excBucket, excVisited, excClean, excValue, noLoad, isWaiting, isCounted, isLoaded, isBefore, loadingBucket, noWriteback, writebackValue}
 use Rattle.page_record.specs.Rules.{storageSomeInvariant, excStateInvariants, writebackStateInvariants, loadingStateInvariants, flagInvariant}
 use Rattle.page_record.specs.Facts.{headRules, headSound}
-use Rattle.page_record.specs.Shapes.{Shape, unmapped, waiting, counted, loaded, available, claimed, writeback, writebackClaimed, writebackAwait, await, pending, editing, head, headAt, valid}
+use Rattle.page_record.specs.Shapes.{Shape, unmapped, waiting, counted, loaded, available, claimed, writeback, writebackClaimed, writebackAwait, await, pending, editing, headWith, headAt, valid}
 
 -- ---- what a holder is, from the test that it passes
 pub no-exc : (e : ExcState) → T (noExc e) → e ≡ ExcState.None
@@ -158,7 +158,7 @@ module _ (s : Storage) (e : ExcState) (l : LoadingState) (w : WritebackState) wh
       record { flag = u .0 .0 .0 .0; storage = u .0 .0 .0 .1; exc = u .0 .0 .1; writeback = u .0 .1; loading = u .1 }
 
   abbrev Shaped : Flag → Type 0
-  Shaped f = (z : Shape) × T (valid z) × ((cs : List Count) → head s f cs e l w ≡ headAt z cs)
+  Shaped f = (z : Shape) × T (valid z) × ((cs : List Count) → headWith s f cs e l w ≡ headAt z cs)
 
   -- nobody has the page out
   idle : T (noExc e) → T (noLoad l) → T (storageSomeInvariant s e l)

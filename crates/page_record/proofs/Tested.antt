@@ -13,10 +13,10 @@ use Rattle.kinds.specs.Limits.{buckets, capacity, ceiling}
 use Rattle.kinds.specs.declared.Count.{Count}
 use Rattle.kinds.specs.declared.Reader.{Reader}
 use Rattle.readers.specs.declared.Readers.{Readers}
-use Rattle.readers.specs.Lists.{all}
+use Rattle.readers.specs.Lists.{every}
 use Rattle.readers.specs.Listed.{live, listed}
 use Rattle.readers.proofs.Tests.{is-true, both, halves, and-iff}
-use Rattle.readers.proofs.Lists.{all-mono, all-at}
+use Rattle.readers.proofs.Lists.{every-mono, every-at}
 use Rattle.readers.proofs.Bridge.{live-listed, length-listed, blank-listed, length-live, listed-live}
 use Rattle.page_record.specs.declared.Head.{Head}
 use Rattle.page_record.specs.declared.Page.{Page}
@@ -47,27 +47,27 @@ eq→eqb : (m n : ℕ) → m ≡ n → T (eqb m n)
 eq→eqb m n e = is-true (eq-eqb m n e)
 
 -- an entry that is read past the end is the default
-pub all-default : {A : Type 0} (f : A → Bool) (l : List A) (i : ℕ) (d : A) → T (all f l) → T (f d) → T (f (getD l i d))
-all-default f [] i d t u = u
-all-default f (x ∷ l) zero d t u = halves (f x) (all f l) t .0
-all-default f (x ∷ l) (suc i) d t u = all-default f l i d (halves (f x) (all f l) t .1) u
+pub every-default : {A : Type 0} (f : A → Bool) (l : List A) (i : ℕ) (d : A) → T (every f l) → T (f d) → T (f (getD l i d))
+every-default f [] i d t u = u
+every-default f (x ∷ l) zero d t u = halves (f x) (every f l) t .0
+every-default f (x ∷ l) (suc i) d t u = every-default f l i d (halves (f x) (every f l) t .1) u
 
 -- ---- every bucket, and every count
-at-bucket : (f : ℕ → Bool) → T (all f everyBucket) → (b : ℕ) → b < buckets → T (f b)
-at-bucket f t zero k = all-at f everyBucket 0 0 t k
-at-bucket f t (suc zero) k = all-at f everyBucket 1 0 t k
-at-bucket f t (suc (suc zero)) k = all-at f everyBucket 2 0 t k
-at-bucket f t (suc (suc (suc zero))) k = all-at f everyBucket 3 0 t k
+at-bucket : (f : ℕ → Bool) → T (every f everyBucket) → (b : ℕ) → b < buckets → T (f b)
+at-bucket f t zero k = every-at f everyBucket 0 0 t k
+at-bucket f t (suc zero) k = every-at f everyBucket 1 0 t k
+at-bucket f t (suc (suc zero)) k = every-at f everyBucket 2 0 t k
+at-bucket f t (suc (suc (suc zero))) k = every-at f everyBucket 3 0 t k
 at-bucket f t (suc (suc (suc (suc b)))) k = absurd (omega arith)
 
-every-bucket : (f : ℕ → Bool) → ((b : ℕ) → b < buckets → T (f b)) → T (all f everyBucket)
+every-bucket : (f : ℕ → Bool) → ((b : ℕ) → b < buckets → T (f b)) → T (every f everyBucket)
 every-bucket f k = simp and-iff (k 0 (omega arith), (k 1 (omega arith), (k 2 (omega arith), (k 3 (omega arith), tt))))
 
 abbrev isFew : Count → Bool
 isFew c = leb (c .0) ceiling
 
 few-of : (cs : List Count) → T (countsWithin cs) → (b : ℕ) → numberAt cs b ≤ ceiling
-few-of cs t b = leb→le (numberAt cs b) ceiling (all-default isFew cs b (record { 0 = 0 }) t tt)
+few-of cs t b = leb→le (numberAt cs b) ceiling (every-default isFew cs b (record { 0 = 0 }) t tt)
 
 of-few : (cs : List Count) → ((b : ℕ) → numberAt cs b ≤ ceiling) → T (countsWithin cs)
 of-few [] few = tt
@@ -83,7 +83,7 @@ facts p t =
     let equal : ℕ → Bool = λ b. eqb (numberAt cs b) (refs b) in
     let rule = none-broken 1 (rules (headOf p) rs) (omega arith) t in
     let from5 = rule .1 .1 .1 .1 in
-    let counts = halves (eqb (length cs) buckets) (all equal everyBucket) (from5 .0) in
+    let counts = halves (eqb (length cs) buckets) (every equal everyBucket) (from5 .0) in
     let limits = simp and-iff at (from5 .1 .1 .1 .0) in
     let short : rs .len ≤ capacity = leb→le (rs .len) capacity (limits .1 .0 .0 .0) in
     let whole : length (rs .items) ≡ capacity = eqb→eq (length (rs .items)) capacity (limits .1 .0 .0 .1) in
@@ -122,7 +122,7 @@ module _ (h : Head) (l : List Reader) (s : Sound h l) where
       let cs = h .«ref_counts» in
       let refs : ℕ → ℕ = λ b. countAllRefs l (h .«exc_state») (h .«loading_state») b in
       let equal : ℕ → Bool = λ b. eqb (numberAt cs b) (refs b) in
-      both (eqb (length cs) buckets) (all equal everyBucket) (eq→eqb (length cs) buckets (s .four))
+      both (eqb (length cs) buckets) (every equal everyBucket) (eq→eqb (length cs) buckets (s .four))
       (every-bucket equal (λ b k. eq→eqb (numberAt cs b) (refs b) (s .counts b k)))
 
   -- rule 8
@@ -131,8 +131,8 @@ module _ (h : Head) (l : List Reader) (s : Sound h l) where
       let near : Reader → Bool = λ r. ltb (r .bucket .0) buckets in
       let holders : T (holdersWithin (h .«exc_state») (h .«loading_state»)) =
       by-shape (λ (x : Head). T (holdersWithin (x .«exc_state») (x .«loading_state»))) within-at h (s .head) in
-      let readers : T (all near l) =
-      all-mono (sharedStateValid h) near l (λ r t. lt→ltb (r .bucket .0) buckets (valid-bucket h r t)) (s .readers) in
+      let readers : T (every near l) =
+      every-mono (sharedStateValid h) near l (λ r t. lt→ltb (r .bucket .0) buckets (valid-bucket h r t)) (s .readers) in
       let short = le→leb (length l) capacity (s .room) in
       let whole = eq→eqb (length (listed l .items)) capacity (length-listed l (s .room)) in
       rw (live-listed l)

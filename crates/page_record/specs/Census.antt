@@ -2,8 +2,6 @@
 use Prim.Native.Nat.{ℕ}
 use mathlib.Core.Bool.{cond}
 use mathlib.Core.List.{List, [], _∷_, map}
-use lib.ListN.{replicate}
-use Rattle.kinds.specs.Limits.{buckets}
 use Rattle.kinds.specs.declared.Count.{Count}
 use Rattle.kinds.specs.declared.Reader.{Reader}
 use Rattle.readers.specs.Listed.{live, countIn}

@@ -13,7 +13,7 @@ use Rattle.kinds.specs.declared.Reader.{Reader}
 use Rattle.kinds.specs.declared.ExcState.{ExcState}
 use Rattle.kinds.specs.declared.LoadingState.{LoadingState}
 use Rattle.kinds.specs.declared.WritebackState.{WritebackState}
-use Rattle.readers.specs.Lists.{all}
+use Rattle.readers.specs.Lists.{every}
 use Rattle.readers.specs.Listed.{live, listed}
 use Rattle.page_record.specs.declared.Head.{Head}
 use Rattle.page_record.specs.declared.Page.{Page}
@@ -41,7 +41,7 @@ pub record Sound (h : Head) (l : List Reader) : Type 0 where
   pub four : length (h .«ref_counts») ≡ buckets
   pub counts : (b : ℕ) → b < buckets → numberAt (h .«ref_counts») b ≡ countAllRefs l (h .«exc_state») (h .«loading_state») b
   -- rule 7
-  pub readers : T (all (sharedStateValid h) l)
+  pub readers : T (every (sharedStateValid h) l)
   -- rule 8
   pub few : (b : ℕ) → numberAt (h .«ref_counts») b ≤ ceiling
   pub room : length l ≤ capacity

@@ -7,7 +7,6 @@ use lib.Dec.{eqb, ltb, leb}
 use lib.ListN.{length}
 use Rattle.kinds.specs.Limits.{buckets, capacity, ceiling}
 use Rattle.kinds.specs.declared.Count.{Count}
-use Rattle.kinds.specs.declared.MaybeBucket.{MaybeBucket}
 use Rattle.kinds.specs.declared.Flag.{Flag}
 use Rattle.kinds.specs.declared.Storage.{Storage}
 use Rattle.kinds.specs.declared.Phase.{Phase}
@@ -17,7 +16,7 @@ use Rattle.kinds.specs.declared.LoadingState.{LoadingState}
 use Rattle.kinds.specs.declared.WritebackState.{WritebackState}
 use Rattle.kinds.specs.Flags.{isUnmapped}
 use Rattle.readers.specs.declared.Readers.{Readers}
-use Rattle.readers.specs.Lists.{all}
+use Rattle.readers.specs.Lists.{every}
 use Rattle.readers.specs.Listed.{live, blankPast}
 use Rattle.page_record.specs.declared.Head.{Head}
 use Rattle.page_record.specs.declared.Page.{Page}
@@ -64,7 +63,7 @@ everyBucket = 0 ∷ 1 ∷ 2 ∷ 3 ∷ []
 -- there is a count for each bucket (line 549), and it is the number of references there (line 551)
 abbrev pub refCountInvariant : List Count → List Reader → ExcState → LoadingState → Bool
 refCountInvariant cs readers e l =
-    eqb (length cs) buckets && all (λ b. eqb (numberAt cs b) (countAllRefs readers e l b)) everyBucket
+    eqb (length cs) buckets && every (λ b. eqb (numberAt cs b) (countAllRefs readers e l b)) everyBucket
 
 -- ---- rule 6: flag_invariant, line 556
 abbrev pub flagInvariant : Flag → ExcState → LoadingState → WritebackState → Bool
@@ -110,12 +109,12 @@ sharedStateValid h r =
     (mayHold (h .flag) (h .«exc_state») (h .«loading_state») (h .storage) (r .bucket .0))
 
 abbrev pub sharedStorageInvariant : Head → List Reader → Bool
-sharedStorageInvariant h readers = all (sharedStateValid h) readers
+sharedStorageInvariant h readers = every (sharedStateValid h) readers
 
 -- ---- rule 8: the limits of document 01
 -- each count at most 31
 abbrev pub countsWithin : List Count → Bool
-countsWithin cs = all (λ (c : Count). leb (c .0) ceiling) cs
+countsWithin cs = every (λ (c : Count). leb (c .0) ceiling) cs
 
 -- every holder's bucket 0 to 3, visited at most 4
 abbrev pub holdersWithin : ExcState → LoadingState → Bool
@@ -123,7 +122,7 @@ holdersWithin e l = validBucket (excBucket e) && validBucket (loadingBucket l) &
 
 -- every listed reader's bucket 0 to 3
 abbrev pub bucketsWithin : List Reader → Bool
-bucketsWithin l = all (λ (r : Reader). ltb (r .bucket .0) buckets) l
+bucketsWithin l = every (λ (r : Reader). ltb (r .bucket .0) buckets) l
 
 -- at most 64 listed, each at a bucket 0 to 3, and blanks past them (an array always has its 64 entries)
 abbrev pub readersWithin : Readers → Bool

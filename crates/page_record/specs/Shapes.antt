@@ -33,8 +33,8 @@ pub data Shape : Type 0 where
   editing : (bucket : MaybeBucket) (clean : Bool) → Shape
 
 -- a head of these parts, in the record's order
-abbrev pub head : Storage → Flag → List Count → ExcState → LoadingState → WritebackState → Head
-head s f cs e l w = record {
+abbrev pub headWith : Storage → Flag → List Count → ExcState → LoadingState → WritebackState → Head
+headWith s f cs e l w = record {
   storage = s;
   flag = f;
   «ref_counts» = cs;
@@ -45,18 +45,18 @@ head s f cs e l w = record {
 
 -- the head of a shape, with these counts
 abbrev pub headAt : Shape → List Count → Head
-headAt (unmapped v) cs = head (Storage.In v) Flag.Unmapped cs ExcState.None LoadingState.None WritebackState.None
-headAt waiting cs = head Storage.Out Flag.LoadingExcLock cs ExcState.None LoadingState.Pending WritebackState.None
-headAt (counted b) cs = head Storage.Out Flag.LoadingExcLock cs ExcState.None (LoadingState.PendingCounted (MaybeBucket.At b)) WritebackState.None
-headAt (loaded m) cs = head Storage.Out Flag.Loading cs ExcState.None (LoadingState.Obtained m) WritebackState.None
-headAt (available v) cs = head (Storage.In v) Flag.Available cs ExcState.None LoadingState.None WritebackState.None
-headAt (claimed m v) cs = head (Storage.In v) Flag.Claimed cs (ExcState.Claim m v) LoadingState.None WritebackState.None
-headAt (writeback v) cs = head (Storage.In v) Flag.Writeback cs ExcState.None LoadingState.None (WritebackState.Held v)
-headAt (writebackClaimed m v) cs = head (Storage.In v) Flag.WritebackAndClaimed cs (ExcState.Claim m v) LoadingState.None (WritebackState.Held v)
-headAt (writebackAwait m v) cs = head (Storage.In v) Flag.WritebackAndPendingExcLock cs (ExcState.PendingAwaitWriteback m v) LoadingState.None (WritebackState.Held v)
-headAt (await m v) cs = head (Storage.In v) Flag.PendingExcLock cs (ExcState.PendingAwaitWriteback m v) LoadingState.None WritebackState.None
-headAt (pending m n clean v) cs = head (Storage.In v) (lockFlag clean) cs (ExcState.Pending m n clean v) LoadingState.None WritebackState.None
-headAt (editing m clean) cs = head Storage.Out (lockFlag clean) cs (ExcState.Obtained m clean) LoadingState.None WritebackState.None
+headAt (unmapped v) cs = headWith (Storage.In v) Flag.Unmapped cs ExcState.None LoadingState.None WritebackState.None
+headAt waiting cs = headWith Storage.Out Flag.LoadingExcLock cs ExcState.None LoadingState.Pending WritebackState.None
+headAt (counted b) cs = headWith Storage.Out Flag.LoadingExcLock cs ExcState.None (LoadingState.PendingCounted (MaybeBucket.At b)) WritebackState.None
+headAt (loaded m) cs = headWith Storage.Out Flag.Loading cs ExcState.None (LoadingState.Obtained m) WritebackState.None
+headAt (available v) cs = headWith (Storage.In v) Flag.Available cs ExcState.None LoadingState.None WritebackState.None
+headAt (claimed m v) cs = headWith (Storage.In v) Flag.Claimed cs (ExcState.Claim m v) LoadingState.None WritebackState.None
+headAt (writeback v) cs = headWith (Storage.In v) Flag.Writeback cs ExcState.None LoadingState.None (WritebackState.Held v)
+headAt (writebackClaimed m v) cs = headWith (Storage.In v) Flag.WritebackAndClaimed cs (ExcState.Claim m v) LoadingState.None (WritebackState.Held v)
+headAt (writebackAwait m v) cs = headWith (Storage.In v) Flag.WritebackAndPendingExcLock cs (ExcState.PendingAwaitWriteback m v) LoadingState.None (WritebackState.Held v)
+headAt (await m v) cs = headWith (Storage.In v) Flag.PendingExcLock cs (ExcState.PendingAwaitWriteback m v) LoadingState.None WritebackState.None
+headAt (pending m n clean v) cs = headWith (Storage.In v) (lockFlag clean) cs (ExcState.Pending m n clean v) LoadingState.None WritebackState.None
+headAt (editing m clean) cs = headWith Storage.Out (lockFlag clean) cs (ExcState.Obtained m clean) LoadingState.None WritebackState.None
 
 -- its bucket is 0 to 3, and its visited number at most 4
 abbrev pub valid : Shape → Bool

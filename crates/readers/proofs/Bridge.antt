@@ -13,11 +13,11 @@ use lib.Seq.{take-append-seam, drop-append-seam, set-append-seam, set-append-lef
 use Rattle.kinds.specs.Limits.{capacity}
 use Rattle.kinds.specs.declared.Reader.{Reader}
 use Rattle.readers.specs.declared.Readers.{Readers}
-use Rattle.readers.specs.Lists.{all, without}
+use Rattle.readers.specs.Lists.{every, without}
 use Rattle.readers.specs.Same.{sameReader}
 use Rattle.readers.specs.Listed.{live, blankReader, listed, blankPast, noReaders, pushed, putAt, removedAt}
 use Rattle.readers.proofs.Tests.{halves}
-use Rattle.readers.proofs.Lists.{length-without, all-replicate}
+use Rattle.readers.proofs.Lists.{length-without, every-replicate}
 use Rattle.readers.proofs.Equal.{same-refl, same-is}
 
 -- ---- the array of a list
@@ -28,14 +28,14 @@ pub length-listed : (l : List Reader) → length l ≤ capacity → length (list
 length-listed l h = simp (length-append, length-replicate) (omega arith)
 
 pub blank-listed : (l : List Reader) → T (blankPast (listed l))
-blank-listed l = rw drop-append-seam (all-replicate (sameReader blankReader) (capacity - length l) blankReader (same-refl blankReader))
+blank-listed l = rw drop-append-seam (every-replicate (sameReader blankReader) (capacity - length l) blankReader (same-refl blankReader))
 
 -- ---- an array that is well kept is the array of its list
 -- readers that are all x are copies of x
-same-all : (x : Reader) (l : List Reader) → T (all (sameReader x) l) → l ≡ replicate (length l) x
+same-all : (x : Reader) (l : List Reader) → T (every (sameReader x) l) → l ≡ replicate (length l) x
 same-all x [] t = refl
 same-all x (r ∷ l) t =
-    let h = halves (sameReader x r) (all (sameReader x) l) t in
+    let h = halves (sameReader x r) (every (sameReader x) l) t in
     rw (← same-is x r (h .0), ← same-all x l (h .1))
 
 module _ (rs : Readers) (full : length (rs .items) ≡ capacity) (fits : rs .len ≤ capacity) where

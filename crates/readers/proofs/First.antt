@@ -13,7 +13,7 @@ use lib.ListN.{length, take, drop, getD, set}
 use lib.Seq.{split-at, set-append-seam}
 use Rattle.kinds.specs.declared.Reader.{Reader}
 use Rattle.readers.specs.declared.Found.{Found}
-use Rattle.readers.specs.Lists.{all, without}
+use Rattle.readers.specs.Lists.{every, without}
 use Rattle.readers.specs.Same.{sameReader}
 use Rattle.readers.specs.Listed.{findFrom, findIn, blankReader}
 use Rattle.readers.proofs.Tests.{is-true, to-true, is-false, to-false, both, halves}
@@ -22,7 +22,7 @@ use Rattle.readers.proofs.Equal.{same-refl, same-is}
 
 -- x is not among them
 abbrev pub absent : Reader → List Reader → Bool
-absent x l = all (λ r. not (sameReader r x)) l
+absent x l = every (λ r. not (sameReader r x)) l
 
 -- i is the first place of l at which x stands
 pub record First (l : List Reader) (x : Reader) (i : ℕ) : Type 0 where

@@ -1,5 +1,5 @@
--- Laws of `tally`, `all` and `without`, over any element type: what each says after the list grows, loses or changes an entry.
--- In order: `without` by recursion, at a seam, and its length; `all` of two lists and of parts, after each change, at an entry,
+-- Laws of `tally`, `every` and `without`, over any element type: what each says after the list grows, loses or changes an entry.
+-- In order: `without` by recursion, at a seam, and its length; `every` of two lists and of parts, after each change, at an entry,
 -- and of two tests; `tally` of two lists, after each change, and what it says of the entries.
 -- `set` at a seam is `set-append-seam` of lib.Seq. Assumes nothing.
 use Prim.Native.Nat.{ℕ, zero, suc, _+_, _<_, _≤_}
@@ -11,7 +11,7 @@ use native.Mathlib.Omega.{arith}
 use lib.Dec.{T}
 use lib.ListN.{length, take, drop, getD, set, replicate, length-append, length-take, length-drop, take-append-drop}
 use lib.Seq.{take-append-seam, drop-append-add}
-use Rattle.readers.specs.Lists.{tally, all, without}
+use Rattle.readers.specs.Lists.{tally, every, without}
 use Rattle.readers.proofs.Tests.{both, halves}
 
 -- what one entry adds to a tally
@@ -54,64 +54,64 @@ module _ {A : Type 0} where
   -- ---- all
   module _ (test : A → Bool) where
     -- two lists, there and back
-    pub all-append : (xs ys : List A) → T (all test xs) → T (all test ys) → T (all test (xs ++ ys))
-    all-append [] ys s t = t
-    all-append (x ∷ xs) ys s t =
-        let h = halves (test x) (all test xs) s in
-        both (test x) (all test (xs ++ ys)) (h .0) (all-append xs ys (h .1) t)
+    pub every-append : (xs ys : List A) → T (every test xs) → T (every test ys) → T (every test (xs ++ ys))
+    every-append [] ys s t = t
+    every-append (x ∷ xs) ys s t =
+        let h = halves (test x) (every test xs) s in
+        both (test x) (every test (xs ++ ys)) (h .0) (every-append xs ys (h .1) t)
 
-    pub all-parts : (xs ys : List A) → T (all test (xs ++ ys)) → T (all test xs) × T (all test ys)
-    all-parts [] ys t = (tt, t)
-    all-parts (x ∷ xs) ys t =
-        let h = halves (test x) (all test (xs ++ ys)) t in
-        let p = all-parts xs ys (h .1) in
-        (both (test x) (all test xs) (h .0) (p .0), p .1)
+    pub every-parts : (xs ys : List A) → T (every test (xs ++ ys)) → T (every test xs) × T (every test ys)
+    every-parts [] ys t = (tt, t)
+    every-parts (x ∷ xs) ys t =
+        let h = halves (test x) (every test (xs ++ ys)) t in
+        let p = every-parts xs ys (h .1) in
+        (both (test x) (every test xs) (h .0) (p .0), p .1)
 
     -- after each change
-    pub all-push : (l : List A) (x : A) → T (all test l) → T (test x) → T (all test (l ++ x ∷ []))
-    all-push l x s t = all-append l (x ∷ []) s (both (test x) true t tt)
+    pub every-push : (l : List A) (x : A) → T (every test l) → T (test x) → T (every test (l ++ x ∷ []))
+    every-push l x s t = every-append l (x ∷ []) s (both (test x) true t tt)
 
-    pub all-put : (l : List A) (i : ℕ) (x : A) → T (all test l) → T (test x) → T (all test (set l i x))
-    all-put [] i x s t = tt
-    all-put (y ∷ l) zero x s t = both (test x) (all test l) t (halves (test y) (all test l) s .1)
-    all-put (y ∷ l) (suc i) x s t =
-        let h = halves (test y) (all test l) s in
-        both (test y) (all test (set l i x)) (h .0) (all-put l i x (h .1) t)
+    pub every-put : (l : List A) (i : ℕ) (x : A) → T (every test l) → T (test x) → T (every test (set l i x))
+    every-put [] i x s t = tt
+    every-put (y ∷ l) zero x s t = both (test x) (every test l) t (halves (test y) (every test l) s .1)
+    every-put (y ∷ l) (suc i) x s t =
+        let h = halves (test y) (every test l) s in
+        both (test y) (every test (set l i x)) (h .0) (every-put l i x (h .1) t)
 
     -- a part, and the list without one
-    pub all-take : (l : List A) (n : ℕ) → T (all test l) → T (all test (take n l))
-    all-take l n t = all-parts (take n l) (drop n l) (rw take-append-drop t) .0
+    pub every-take : (l : List A) (n : ℕ) → T (every test l) → T (every test (take n l))
+    every-take l n t = every-parts (take n l) (drop n l) (rw take-append-drop t) .0
 
-    pub all-drop : (l : List A) (n : ℕ) → T (all test l) → T (all test (drop n l))
-    all-drop l n t = all-parts (take n l) (drop n l) (rw take-append-drop t) .1
+    pub every-drop : (l : List A) (n : ℕ) → T (every test l) → T (every test (drop n l))
+    every-drop l n t = every-parts (take n l) (drop n l) (rw take-append-drop t) .1
 
-    pub all-without : (l : List A) (i : ℕ) → T (all test l) → T (all test (without i l))
-    all-without l i t = all-append (take i l) (drop (i + 1) l) (all-take l i t) (all-drop l (i + 1) t)
+    pub every-without : (l : List A) (i : ℕ) → T (every test l) → T (every test (without i l))
+    every-without l i t = every-append (take i l) (drop (i + 1) l) (every-take l i t) (every-drop l (i + 1) t)
 
     -- each entry, and copies of one
-    pub all-at : (l : List A) (i : ℕ) (d : A) → T (all test l) → i < length l → T (test (getD l i d))
-    all-at [] i d t h = absurd (omega arith)
-    all-at (x ∷ l) zero d t h = halves (test x) (all test l) t .0
-    all-at (x ∷ l) (suc i) d t h = all-at l i d (halves (test x) (all test l) t .1) (omega arith)
+    pub every-at : (l : List A) (i : ℕ) (d : A) → T (every test l) → i < length l → T (test (getD l i d))
+    every-at [] i d t h = absurd (omega arith)
+    every-at (x ∷ l) zero d t h = halves (test x) (every test l) t .0
+    every-at (x ∷ l) (suc i) d t h = every-at l i d (halves (test x) (every test l) t .1) (omega arith)
 
-    pub all-replicate : (n : ℕ) (x : A) → T (test x) → T (all test (replicate n x))
-    all-replicate zero x t = tt
-    all-replicate (suc n) x t = both (test x) (all test (replicate n x)) t (all-replicate n x t)
+    pub every-replicate : (n : ℕ) (x : A) → T (test x) → T (every test (replicate n x))
+    every-replicate zero x t = tt
+    every-replicate (suc n) x t = both (test x) (every test (replicate n x)) t (every-replicate n x t)
 
   -- two tests: one that follows from the other, and both at once
   module _ (f g : A → Bool) where
-    pub all-mono : (l : List A) → ((x : A) → T (f x) → T (g x)) → T (all f l) → T (all g l)
-    all-mono [] m t = tt
-    all-mono (x ∷ l) m t =
-        let h = halves (f x) (all f l) t in
-        both (g x) (all g l) (m x (h .0)) (all-mono l m (h .1))
+    pub every-mono : (l : List A) → ((x : A) → T (f x) → T (g x)) → T (every f l) → T (every g l)
+    every-mono [] m t = tt
+    every-mono (x ∷ l) m t =
+        let h = halves (f x) (every f l) t in
+        both (g x) (every g l) (m x (h .0)) (every-mono l m (h .1))
 
-    pub all-both : (l : List A) → T (all f l) → T (all g l) → T (all (λ x. f x && g x) l)
-    all-both [] s t = tt
-    all-both (x ∷ l) s t =
-        let h = halves (f x) (all f l) s in
-        let k = halves (g x) (all g l) t in
-        both (f x && g x) (all (λ x. f x && g x) l) (both (f x) (g x) (h .0) (k .0)) (all-both l (h .1) (k .1))
+    pub every-both : (l : List A) → T (every f l) → T (every g l) → T (every (λ x. f x && g x) l)
+    every-both [] s t = tt
+    every-both (x ∷ l) s t =
+        let h = halves (f x) (every f l) s in
+        let k = halves (g x) (every g l) t in
+        both (f x && g x) (every (λ x. f x && g x) l) (both (f x) (g x) (h .0) (k .0)) (every-both l (h .1) (k .1))
 
   -- ---- tally
   module _ (test : A → Bool) where
@@ -139,10 +139,10 @@ module _ {A : Type 0} where
     tally-le [] = omega arith
     tally-le (x ∷ l) = omega (arith, tally-le l, one-le (test x))
 
-    pub tally-none : (l : List A) → tally test l ≡ 0 → T (all (λ x. not (test x)) l)
+    pub tally-none : (l : List A) → tally test l ≡ 0 → T (every (λ x. not (test x)) l)
     tally-none [] e = tt
     tally-none (x ∷ l) e =
-        both (not (test x)) (all (λ x. not (test x)) l) (none-is (test x) (omega arith)) (tally-none l (omega arith))
+        both (not (test x)) (every (λ x. not (test x)) l) (none-is (test x) (omega arith)) (tally-none l (omega arith))
 
     pub tally-positive : (l : List A) (i : ℕ) (d : A) → i < length l → T (test (getD l i d)) → 1 ≤ tally test l
     tally-positive l i d h t = omega (arith, tally-without l i d h, one-is (test (getD l i d)) t)

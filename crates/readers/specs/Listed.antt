@@ -9,7 +9,7 @@ use Rattle.kinds.specs.Limits.{capacity}
 use Rattle.kinds.specs.Numbers.{phaseNumber}
 use Rattle.kinds.specs.declared.Phase.{Phase}
 use Rattle.kinds.specs.declared.Reader.{Reader}
-use Rattle.readers.specs.Lists.{tally, all, without}
+use Rattle.readers.specs.Lists.{tally, every, without}
 use Rattle.readers.specs.Same.{sameReader}
 use Rattle.readers.specs.declared.Readers.{Readers}
 use Rattle.readers.specs.declared.Found.{Found}
@@ -30,7 +30,7 @@ listed l = record { items = l ++ replicate (capacity - length l) blankReader; le
 
 -- every entry past the length is blank
 abbrev pub blankPast : Readers → Bool
-blankPast rs = all (sameReader blankReader) (drop (rs .len) (rs .items))
+blankPast rs = every (sameReader blankReader) (drop (rs .len) (rs .items))
 
 -- ---- searching and counting
 -- the place of the first reader equal to x, counted from i

@@ -10,9 +10,9 @@ tally test [] = 0
 tally test (x ∷ xs) = cond (test x) 1 0 + tally test xs
 
 -- whether all entries pass the test
-abbrev pub all : {A : Type 0} → (A → Bool) → List A → Bool
-all test [] = true
-all test (x ∷ xs) = test x && all test xs
+abbrev pub every : {A : Type 0} → (A → Bool) → List A → Bool
+every test [] = true
+every test (x ∷ xs) = test x && every test xs
 
 -- the list without its entry at a place: the later ones close the gap
 abbrev pub without : {A : Type 0} → ℕ → List A → List A

@@ -11,10 +11,10 @@ use Rattle.kinds.specs.Limits.{recordSize}
 use Rattle.page_record.specs.declared.Page.{Page}
 use Rattle.steps.specs.declared.Refusal.{Refusal}
 use Rattle.steps.specs.declared.Request.{Request}
-use Rattle.lock.specs.Step.{stepOf}
+use Rattle.lock.specs.Step.{refusedBy, stepOf}
 use Rattle.wire.specs.declared.Reading.{Reading}
 use Rattle.wire.specs.Requests.{readOf}
-use Rattle.replay.specs.Turns.{refusedFor, onReading, turnOf}
+use Rattle.replay.specs.Turns.{onReading, turnOf}
 use Rattle.replay.specs.Run.{cut, requestsOf, pageAfter, recordAt, pageAt}
 
 -- ---- one request
@@ -24,7 +24,7 @@ module _ (page : Page) (bytes : List ℕ) where
   unfolding turnOf
   turn-read q e = ap (onReading page) e
 
-  pub turn-refused : (why : Refusal) → readOf bytes ≡ Reading.Refused why → turnOf page bytes ≡ refusedFor page why
+  pub turn-refused : (why : Refusal) → readOf bytes ≡ Reading.Refused why → turnOf page bytes ≡ refusedBy page why
   unfolding turnOf
   turn-refused why e = ap (onReading page) e
 

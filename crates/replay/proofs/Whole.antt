@@ -13,7 +13,7 @@ use Rattle.steps.specs.declared.Answer.{Answer}
 use Rattle.steps.specs.declared.Verdict.{Verdict}
 use Rattle.steps.specs.Answers.{refusalNumber}
 use Rattle.wire.proofs.Lowest.{Applies, Lowest, lowest, none}
-use Rattle.replay.specs.Turns.{refusedFor}
+use Rattle.lock.specs.Step.{refusedBy}
 use Rattle.replay.specs.Run.{runPremises, runVerdict, ends, fills, ranOf, answersOf}
 use Rattle.replay.proofs.Judged.{Allowed, allowed, passed, verdict-accepted, verdict-refused}
 
@@ -37,7 +37,7 @@ module _ (page : Page) (requests answers : List ℕ) where
   run-lowest why e = lowest refusalNumber 0 (runPremises page requests answers) why refl (verdict-refused page requests answers why e)
 
   pub refused-untouched : (why : Refusal) → ranOf page requests answers .answer ≡ Answer.Refused why
-      → (ranOf page requests answers ≡ refusedFor page why) × (answersOf page requests answers ≡ answers)
+      → (ranOf page requests answers ≡ refusedBy page why) × (answersOf page requests answers ≡ answers)
   unfolding ranOf answersOf
   refused-untouched why e =
       let v = verdict-refused page requests answers why e in

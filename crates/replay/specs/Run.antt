@@ -13,8 +13,9 @@ use Rattle.steps.specs.declared.Answer.{Answer}
 use Rattle.steps.specs.declared.Verdict.{Verdict}
 use Rattle.steps.specs.Premises.{verdict}
 use Rattle.lock.specs.declared.Outcome.{Outcome}
+use Rattle.lock.specs.Step.{refusedBy}
 use Rattle.wire.specs.Answers.{lineOf}
-use Rattle.replay.specs.Turns.{refusedFor, turnOf}
+use Rattle.replay.specs.Turns.{turnOf}
 
 -- ---- the requests
 -- n pieces of w bytes each
@@ -66,7 +67,7 @@ runVerdict page bytes space = verdict (wholePremises (soundOf page) bytes space)
 -- accepted, and the page after all requests; a refusal leaves the page
 abbrev pub ends : Page → List ℕ → Verdict → Outcome
 ends page requests Verdict.Passed = record { answer = Answer.Accepted; page = pageAfter page (requestsOf requests) }
-ends page requests (Verdict.Failed why) = refusedFor page why
+ends page requests (Verdict.Failed why) = refusedBy page why
 
 unfoldable pub ranOf : Page → List ℕ → List ℕ → Outcome
 ranOf page requests answers = ends page requests (runVerdict page (length requests) (length answers))

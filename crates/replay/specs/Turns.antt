@@ -2,21 +2,15 @@
 use Prim.Native.Nat.{ℕ}
 use mathlib.Core.List.{List}
 use Rattle.page_record.specs.declared.Page.{Page}
-use Rattle.steps.specs.declared.Refusal.{Refusal}
-use Rattle.steps.specs.declared.Answer.{Answer}
 use Rattle.lock.specs.declared.Outcome.{Outcome}
-use Rattle.lock.specs.Step.{stepOf}
+use Rattle.lock.specs.Step.{refusedBy, stepOf}
 use Rattle.wire.specs.declared.Reading.{Reading}
 use Rattle.wire.specs.Requests.{readOf}
-
--- a refusal leaves the page as it was
-abbrev pub refusedFor : Page → Refusal → Outcome
-refusedFor page why = record { answer = Answer.Refused why; page = page }
 
 -- a request is answered by a step; what the reader refuses is refused for the reader's reason
 abbrev pub onReading : Page → Reading → Outcome
 onReading page (Reading.Request q) = stepOf page q
-onReading page (Reading.Refused why) = refusedFor page why
+onReading page (Reading.Refused why) = refusedBy page why
 
 unfoldable pub turnOf : Page → List ℕ → Outcome
 turnOf page bytes = onReading page (readOf bytes)

@@ -109,9 +109,9 @@ both true x = (tt, x)
 both false x = absurd x
 
 plain-at : (sts : List Step) (n : ℕ) (d : Step) → AllPlain sts → T (plain (d .answer)) → T (plain (getD sts n d .answer))
-plain-at [] n d all t = t
-plain-at (st ∷ sts) zero d all t = both (plain (st .answer)) all .0
-plain-at (st ∷ sts) (suc n) d all t = plain-at sts n d (both (plain (st .answer)) all .1) t
+plain-at [] n d every t = t
+plain-at (st ∷ sts) zero d every t = both (plain (st .answer)) every .0
+plain-at (st ∷ sts) (suc n) d every t = plain-at sts n d (both (plain (st .answer)) every .1) t
 
 -- what is refused changes nothing, and carries no value
 pub decide-keeps : (h : Head) (q : Request) (found : Found) (full : Bool) (why : Refusal)

@@ -1,5 +1,4 @@
 -- Which step a request names, which reader it looks for, and what is decided.
-use Prim.Native.Nat.{ℕ}
 use mathlib.Core.Bool.{Bool, false}
 use mathlib.Core.List.{List, [], _∷_}
 use lib.ListN.{getD}

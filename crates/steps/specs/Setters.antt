@@ -10,25 +10,25 @@ use Rattle.kinds.specs.declared.LoadingState.{LoadingState}
 use Rattle.kinds.specs.declared.WritebackState.{WritebackState}
 use Rattle.page_record.specs.declared.Head.{Head}
 use Rattle.page_record.specs.Pages.{numberAt}
-use Rattle.page_record.specs.Shapes.{head}
+use Rattle.page_record.specs.Shapes.{headWith}
 
 abbrev pub withStorage : Storage → Head → Head
-withStorage s h = head s (h .flag) (h .«ref_counts») (h .«exc_state») (h .«loading_state») (h .«writeback_state»)
+withStorage s h = headWith s (h .flag) (h .«ref_counts») (h .«exc_state») (h .«loading_state») (h .«writeback_state»)
 
 abbrev pub withFlag : Flag → Head → Head
-withFlag f h = head (h .storage) f (h .«ref_counts») (h .«exc_state») (h .«loading_state») (h .«writeback_state»)
+withFlag f h = headWith (h .storage) f (h .«ref_counts») (h .«exc_state») (h .«loading_state») (h .«writeback_state»)
 
 abbrev pub withCounts : List Count → Head → Head
-withCounts cs h = head (h .storage) (h .flag) cs (h .«exc_state») (h .«loading_state») (h .«writeback_state»)
+withCounts cs h = headWith (h .storage) (h .flag) cs (h .«exc_state») (h .«loading_state») (h .«writeback_state»)
 
 abbrev pub withExc : ExcState → Head → Head
-withExc e h = head (h .storage) (h .flag) (h .«ref_counts») e (h .«loading_state») (h .«writeback_state»)
+withExc e h = headWith (h .storage) (h .flag) (h .«ref_counts») e (h .«loading_state») (h .«writeback_state»)
 
 abbrev pub withLoading : LoadingState → Head → Head
-withLoading l h = head (h .storage) (h .flag) (h .«ref_counts») (h .«exc_state») l (h .«writeback_state»)
+withLoading l h = headWith (h .storage) (h .flag) (h .«ref_counts») (h .«exc_state») l (h .«writeback_state»)
 
 abbrev pub withWriteback : WritebackState → Head → Head
-withWriteback w h = head (h .storage) (h .flag) (h .«ref_counts») (h .«exc_state») (h .«loading_state») w
+withWriteback w h = headWith (h .storage) (h .flag) (h .«ref_counts») (h .«exc_state») (h .«loading_state») w
 
 -- the counts with this number at a bucket
 abbrev pub withNumber : ℕ → ℕ → List Count → List Count

@@ -139,19 +139,20 @@ depositDowngradeExcLockToClaim h q =
     Edit.Keep
 
 -- ---- the loader
+-- what 11 and 12 share: an unmapped page is handed out to a loader, which stands there under a flag
+abbrev pub withdrawTo : Head → Flag → LoadingState → Step
+withdrawTo h flag loader =
+    handsOut ((Refusal.WrongFlag, isUnmapped (h .flag)) ∷ [])
+    (withFlag flag (withStorage Storage.Out (withLoading loader h)))
+    (valueOf (h .storage))
+
 -- 11, line 267: hands the page out
 abbrev pub withdrawAlloc : Head → Step
-withdrawAlloc h =
-    handsOut ((Refusal.WrongFlag, isUnmapped (h .flag)) ∷ [])
-    (withFlag Flag.LoadingExcLock (withStorage Storage.Out (withLoading LoadingState.Pending h)))
-    (valueOf (h .storage))
+withdrawAlloc h = withdrawTo h Flag.LoadingExcLock LoadingState.Pending
 
 -- 12, line 276: hands the page out
 abbrev pub withdrawAllocNoRefcount : Head → Step
-withdrawAllocNoRefcount h =
-    handsOut ((Refusal.WrongFlag, isUnmapped (h .flag)) ∷ [])
-    (withFlag Flag.Loading (withStorage Storage.Out (withLoading (LoadingState.Obtained MaybeBucket.None) h)))
-    (valueOf (h .storage))
+withdrawAllocNoRefcount h = withdrawTo h Flag.Loading (LoadingState.Obtained MaybeBucket.None)
 
 -- 13, line 285
 abbrev pub loadingIncCount : Head → Request → Step

@@ -1,7 +1,7 @@
 // The loader: steps 11 to 17.
 ghost use mathlib.Core.Path.{_≡_};
 ghost use Rattle.steps.specs.Premises.{decided};
-ghost use Rattle.steps.specs.Steps.{withdrawAlloc, withdrawAllocNoRefcount, loadingIncCount, obtainLoading, obtainLoadingNoRefcount, depositLoadingToShared, depositLoadingToDone};
+ghost use Rattle.steps.specs.Steps.{withdrawTo, withdrawAlloc, withdrawAllocNoRefcount, loadingIncCount, obtainLoading, obtainLoadingNoRefcount, depositLoadingToShared, depositLoadingToDone};
 use crate::Decision;
 use crate::Edit;
 use crate::Refusal;
@@ -24,33 +24,34 @@ use kinds::Storage;
 use kinds::is_unmapped;
 use page_record::Head;
 
+// What 11 and 12 share: an unmapped page is handed out to a loader, which stands there under a flag.
+fn withdraw_to(h: Head, next_flag: Flag, loader: LoadingState) -> Decision
+    ensures { λ r. ⌜ r ≡ decided h (withdrawTo h «next_flag» loader) ⌝ }
+{
+    let storage = h.storage;
+    let flag = h.flag;
+    if !is_unmapped(flag) {
+        return refuse(h, Refusal::WrongFlag);
+    }
+    let next = with_loading(h, Storage::Out, next_flag, loader);
+    hand_out(next, value_of(storage))
+}
+
 // 11: the page is handed out to a loader.
 pub fn withdraw_alloc(h: Head) -> Decision
     ensures { λ r. ⌜ r ≡ decided h (withdrawAlloc h) ⌝ }
 {
-    let storage = h.storage;
-    let flag = h.flag;
-    if !is_unmapped(flag) {
-        return refuse(h, Refusal::WrongFlag);
-    }
-    let next = with_loading(h, Storage::Out, Flag::LoadingExcLock, LoadingState::Pending);
-    hand_out(next, value_of(storage))
+    withdraw_to(h, Flag::LoadingExcLock, LoadingState::Pending)
 }
 
-// 12: the page is handed out to a loader that has no bucket and needs none.
+// 12: the page is handed out to a loader that has no bucket.
 pub fn withdraw_alloc_no_refcount(h: Head) -> Decision
     ensures { λ r. ⌜ r ≡ decided h (withdrawAllocNoRefcount h) ⌝ }
 {
-    let storage = h.storage;
-    let flag = h.flag;
-    if !is_unmapped(flag) {
-        return refuse(h, Refusal::WrongFlag);
-    }
     let obtained = LoadingState::Obtained {
         bucket: MaybeBucket::None,
     };
-    let next = with_loading(h, Storage::Out, Flag::Loading, obtained);
-    hand_out(next, value_of(storage))
+    withdraw_to(h, Flag::Loading, obtained)
 }
 
 // 13: the loader gets a bucket.

@@ -17,7 +17,7 @@ pub fn is_step(n: u8) -> bool
 }
 
 // 4, 13 and 18 to 24 take a bucket.
-fn takes_bucket(n: u8) -> bool
+pub fn takes_bucket(n: u8) -> bool
     ensures { λ r. ⌜ r ≡ takesBucket n ⌝ }
 {
     match n {
@@ -29,14 +29,14 @@ fn takes_bucket(n: u8) -> bool
 }
 
 // 6 takes clean.
-fn takes_clean(n: u8) -> bool
+pub fn takes_clean(n: u8) -> bool
     ensures { λ r. ⌜ r ≡ takesClean n ⌝ }
 {
     n == 6
 }
 
 // 4, 9, 10, 16, 17 and 22 take a value.
-fn takes_value(n: u8) -> bool
+pub fn takes_value(n: u8) -> bool
     ensures { λ r. ⌜ r ≡ takesValue n ⌝ }
 {
     match n {

@@ -14,7 +14,7 @@ use Rattle.steps.specs.declared.Answer.{Answer}
 use Rattle.steps.specs.declared.Verdict.{Verdict}
 use Rattle.steps.specs.Premises.{verdict}
 use Rattle.steps.specs.Requests.{formal, judged}
-use Rattle.wire.specs.Buffers.{room, answerOf, leaves, putAnswer, putTo}
+use Rattle.wire.specs.Buffers.{room, answerFor, leaves, putAnswer, putTo}
 use Rattle.wire.specs.Requests.{bytesOf, readOf, writable, wroteAnswer, wroteTo}
 use Rattle.wire.specs.declared.Reading.{Reading}
 use Rattle.wire.proofs.Premises.{answer-passed, holds-before}
@@ -45,11 +45,11 @@ module _ (bytes l : List ℕ) (sixteen : length bytes ≡ recordSize) where
   past Verdict.Passed = drop-at bytes (drop recordSize l) recordSize sixteen
   past (Verdict.Failed why) = refl
 
-  first : (v : Verdict) → answerOf v ≡ Answer.Accepted → take recordSize (leaves v bytes l) ≡ bytes
+  first : (v : Verdict) → answerFor v ≡ Answer.Accepted → take recordSize (leaves v bytes l) ≡ bytes
   first Verdict.Passed e = take-at bytes (drop recordSize l) recordSize sixteen
   first (Verdict.Failed why) e = absurd (let z : _≡_ {A = ℕ} 0 1 = cc in omega arith)
 
-  same : (v : Verdict) (why : Refusal) → answerOf v ≡ Answer.Refused why → leaves v bytes l ≡ l
+  same : (v : Verdict) (why : Refusal) → answerFor v ≡ Answer.Refused why → leaves v bytes l ≡ l
   same Verdict.Passed why e = absurd (let z : _≡_ {A = ℕ} 0 1 = cc in omega arith)
   same (Verdict.Failed other) why e = refl
 

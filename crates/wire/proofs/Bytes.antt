@@ -11,7 +11,7 @@ use borrow.Author.Tests.{eqb-true}
 use lib.Dec.{eqb}
 use lib.ListN.{length, take, drop, getD, set, replicate}
 use lib.Seq.{drop-cons, getD-drop, take-suc-set, append-snoc}
-use Rattle.wire.specs.Bytes.{number, digits, blank}
+use Rattle.wire.specs.Bytes.{number, lowBytes, blank}
 
 -- ---- bytes
 -- each is below 256; what lies past the end counts as 0
@@ -61,22 +61,22 @@ module _ (l : List ℕ) (k : ℕ) (more : k < length l) where
 
   -- the byte that is stored is the first of those still to come
   pub stored : (n x : ℕ) → k < n
-      → take k l ++ digits (n - k) x ≡ take (k + 1) (set l k (x % 256)) ++ digits (n - (k + 1)) (x / 256)
+      → take k l ++ lowBytes (n - k) x ≡ take (k + 1) (set l k (x % 256)) ++ lowBytes (n - (k + 1)) (x / 256)
   stored n x h =
       let e : n - k ≡ suc (n - (k + 1)) = omega arith in
-      rw (e, add-one k, take-suc-set l k (x % 256)) (sym (append-snoc (take k l) (x % 256) (digits (n - suc k) (x / 256))))
+      rw (e, add-one k, take-suc-set l k (x % 256)) (sym (append-snoc (take k l) (x % 256) (lowBytes (n - suc k) (x / 256))))
 
 -- ---- there and back
-pub number-digits : (n v : ℕ) → v < 256 ^ n → number (digits n v) ≡ v
-number-digits zero v h = omega arith
-number-digits (suc n) v h =
+pub number-lowBytes : (n v : ℕ) → v < 256 ^ n → number (lowBytes n v) ≡ v
+number-lowBytes zero v h = omega arith
+number-lowBytes (suc n) v h =
     let h : v < 256 * 256 ^ n = rw pow-succ' at h in
-    let r = number-digits n (v / 256) (omega arith) in
+    let r = number-lowBytes n (v / 256) (omega arith) in
     omega arith
 
-pub digits-number : (l : List ℕ) → Bytes l → digits (length l) (number l) ≡ l
-digits-number [] b = refl
-digits-number (x ∷ l) b =
+pub lowBytes-number : (l : List ℕ) → Bytes l → lowBytes (length l) (number l) ≡ l
+lowBytes-number [] b = refl
+lowBytes-number (x ∷ l) b =
     let e : (x + 256 * number l) % 256 ≡ x = omega (arith, b 0) in
     let f : (x + 256 * number l) / 256 ≡ number l = omega (arith, b 0) in
-    rw (e, f, digits-number l (λ i. b (suc i)))
+    rw (e, f, lowBytes-number l (λ i. b (suc i)))

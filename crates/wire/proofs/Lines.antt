@@ -11,7 +11,7 @@ use Rattle.steps.specs.declared.Answer.{Answer}
 use Rattle.steps.specs.Answers.{refusalNumber, answerNumber, withdraws, answerValue}
 use Rattle.wire.specs.Answers.{lineOf}
 use Rattle.wire.specs.Bytes.{number, part, recordOf}
-use Rattle.wire.proofs.Bytes.{number-digits}
+use Rattle.wire.proofs.Bytes.{number-lowBytes}
 use Rattle.wire.proofs.Records.{length-record}
 
 pub length-line : (a : Answer) → length (lineOf a) ≡ recordSize
@@ -27,7 +27,7 @@ marks false false e = refl
 
 value-line : (a : Answer) → answerValue a < 256 ^ 8 → number (part 8 16 (lineOf a)) ≡ answerValue a
 unfolding lineOf recordOf
-value-line a h = number-digits 8 (answerValue a) h
+value-line a h = number-lowBytes 8 (answerValue a) h
 
 -- two answers with the same bytes have the same number, the same mark and the same value
 pub line-tells : (a b : Answer) → answerValue a < 256 ^ 8 → answerValue b < 256 ^ 8 → lineOf a ≡ lineOf b

@@ -19,7 +19,7 @@ use Rattle.steps.proofs.Verdicts.{andThen, verdict-append}
 use Rattle.steps.specs.Premises.{verdict}
 use Rattle.steps.specs.Requests.{isStep, fieldsFit, bucketFits, formal, judged}
 use Rattle.wire.specs.Answers.{lineOf}
-use Rattle.wire.specs.Buffers.{room, answerOf, leaves, putAnswer, putTo}
+use Rattle.wire.specs.Buffers.{room, answerFor, leaves, putAnswer, putTo}
 use Rattle.wire.specs.Bytes.{blank, part, recordOf}
 use Rattle.wire.specs.Requests.{bytesOf, fieldsOf, readingOf, readOf, orBadField, wroteAnswer, wroteTo}
 use Rattle.wire.specs.declared.Reading.{Reading}
@@ -35,11 +35,11 @@ read-failed q Verdict.Passed why e = absurd (let z : _≡_ {A = ℕ} 0 1 = cc in
 read-failed q (Verdict.Failed other) why e = cc
 
 -- the same of an answer
-pub answer-passed : (v : Verdict) → answerOf v ≡ Answer.Accepted → v ≡ Verdict.Passed
+pub answer-passed : (v : Verdict) → answerFor v ≡ Answer.Accepted → v ≡ Verdict.Passed
 answer-passed Verdict.Passed e = refl
 answer-passed (Verdict.Failed why) e = absurd (let z : _≡_ {A = ℕ} 0 1 = cc in omega arith)
 
-pub answer-failed : (v : Verdict) (why : Refusal) → answerOf v ≡ Answer.Refused why → v ≡ Verdict.Failed why
+pub answer-failed : (v : Verdict) (why : Refusal) → answerFor v ≡ Answer.Refused why → v ≡ Verdict.Failed why
 answer-failed Verdict.Passed why e = absurd (let z : _≡_ {A = ℕ} 0 1 = cc in omega arith)
 answer-failed (Verdict.Failed other) why e = cc
 
@@ -107,7 +107,7 @@ module _ (q : Request) (l : List ℕ) where
   unfolding judged wroteAnswer wroteTo
   write-refused why e =
       let v = stops-first (formal q) (room l ∷ []) why e in
-      (ap answerOf (sym v), ap (λ (w : Verdict). leaves w (bytesOf q) l) (sym v))
+      (ap answerFor (sym v), ap (λ (w : Verdict). leaves w (bytesOf q) l) (sym v))
 
   -- where the fields fit, the room decides
   pub write-granted : (r : Answer) (ys : List ℕ) → judged q ≡ Verdict.Passed
@@ -116,7 +116,7 @@ module _ (q : Request) (l : List ℕ) where
   unfolding judged wroteAnswer wroteTo bytesOf putAnswer putTo
   write-granted r ys e f g =
       let v = then-next (formal q) (room l ∷ []) e in
-      (f ∙ ap answerOf (sym v), g ∙ ap (λ (w : Verdict). leaves w (bytesOf q) l) (sym v))
+      (f ∙ ap answerFor (sym v), g ∙ ap (λ (w : Verdict). leaves w (bytesOf q) l) (sym v))
 
 -- ---- writing an answer
 -- a bool as a number

@@ -15,17 +15,17 @@ use Rattle.kinds.specs.Limits.{recordSize}
 use Rattle.steps.specs.declared.Request.{Request}
 use Rattle.steps.specs.declared.Verdict.{Verdict}
 use Rattle.steps.specs.Requests.{judged}
-use Rattle.wire.specs.Bytes.{number, digits, blank, part, recordOf}
+use Rattle.wire.specs.Bytes.{number, lowBytes, blank, part, recordOf}
 use Rattle.wire.specs.Requests.{InRange, bytesOf, fieldsOf, readingOf, readOf}
 use Rattle.wire.specs.declared.Reading.{Reading}
-use Rattle.wire.proofs.Bytes.{Bytes, bytes-take, bytes-drop, zeros-are, number-below, number-digits, digits-number}
+use Rattle.wire.proofs.Bytes.{Bytes, bytes-take, bytes-drop, zeros-are, number-below, number-lowBytes, lowBytes-number}
 use Rattle.wire.proofs.Premises.{read-passed, read-ragged, read-fields, read-marked}
 
 -- ---- write, then read
 pub fields-bytes : (q : Request) → q .value < 256 ^ 8 → fieldsOf (bytesOf q) ≡ q
 unfolding bytesOf recordOf
 fields-bytes q h =
-    ap (λ (v : ℕ). record { step = q .step; bucket = q .bucket; clean = q .clean; value = v }) (number-digits 8 (q .value) h)
+    ap (λ (v : ℕ). record { step = q .step; bucket = q .bucket; clean = q .clean; value = v }) (number-lowBytes 8 (q .value) h)
 
 pub write-read : (q : Request) → judged q ≡ Verdict.Passed → q .value < 256 ^ 8 → readOf (bytesOf q) ≡ Reading.Request q
 unfolding bytesOf recordOf
@@ -65,12 +65,12 @@ first-three (a ∷ b ∷ c ∷ l) h = refl
 
 module _ (l : List ℕ) (bytes : Bytes l) (whole : length l ≡ recordSize) where
   -- the last eight bytes are the digits of the value
-  value-bytes : digits 8 (number (part 8 16 l)) ≡ drop 8 l
+  value-bytes : lowBytes 8 (number (part 8 16 l)) ≡ drop 8 l
   value-bytes =
       let eight : length (drop 8 l) ≡ 8 = length-drop 8 l ∙ (let e : length l - 8 ≡ 8 = omega arith in e) in
-      ap (λ (bs : List ℕ). digits 8 (number bs)) (take-all 8 (drop 8 l) (omega arith))
-      ∙ ap (λ (n : ℕ). digits n (number (drop 8 l))) (sym eight)
-      ∙ digits-number (drop 8 l) (bytes-drop 8 l bytes)
+      ap (λ (bs : List ℕ). lowBytes 8 (number bs)) (take-all 8 (drop 8 l) (omega arith))
+      ∙ ap (λ (n : ℕ). lowBytes n (number (drop 8 l))) (sym eight)
+      ∙ lowBytes-number (drop 8 l) (bytes-drop 8 l bytes)
 
   -- bytes 3 to 7, and those after them
   middle : blank (part 3 8 l) ≡ true → drop 3 l ≡ (0 ∷ 0 ∷ 0 ∷ 0 ∷ 0 ∷ []) ++ drop 8 l

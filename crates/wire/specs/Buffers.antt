@@ -15,9 +15,9 @@ abbrev pub room : List ℕ → Refusal × Bool
 room l = (Refusal.NoRoom, leb recordSize (length l))
 
 -- accepted where the premises hold, else refused for the first that fails
-abbrev pub answerOf : Verdict → Answer
-answerOf Verdict.Passed = Answer.Accepted
-answerOf (Verdict.Failed why) = Answer.Refused why
+abbrev pub answerFor : Verdict → Answer
+answerFor Verdict.Passed = Answer.Accepted
+answerFor (Verdict.Failed why) = Answer.Refused why
 
 -- the record over the first sixteen bytes; a refusal leaves the buffer untouched
 abbrev pub leaves : Verdict → List ℕ → List ℕ → List ℕ
@@ -26,7 +26,7 @@ leaves (Verdict.Failed why) bytes l = l
 
 -- a record that is right in itself: what is answered, and what the buffer holds then
 unfoldable pub putAnswer : List ℕ → Answer
-putAnswer l = answerOf (verdict (room l ∷ []))
+putAnswer l = answerFor (verdict (room l ∷ []))
 
 unfoldable pub putTo : List ℕ → List ℕ → List ℕ
 putTo bytes l = leaves (verdict (room l ∷ [])) bytes l

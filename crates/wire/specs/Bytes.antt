@@ -12,9 +12,9 @@ number [] = 0
 number (b ∷ bs) = b + 256 * number bs
 
 -- the n low bytes of a number
-abbrev pub digits : ℕ → ℕ → List ℕ
-digits zero v = []
-digits (suc n) v = v % 256 ∷ digits n (v / 256)
+abbrev pub lowBytes : ℕ → ℕ → List ℕ
+lowBytes zero v = []
+lowBytes (suc n) v = v % 256 ∷ lowBytes n (v / 256)
 
 -- the bytes are all zero
 abbrev pub blank : List ℕ → Bool
@@ -27,4 +27,4 @@ part from to l = take (to - from) (drop from l)
 
 -- a record: bytes 0, 1 and 2, five zeros, and a value in the last eight
 unfoldable pub recordOf : ℕ → ℕ → ℕ → ℕ → List ℕ
-recordOf a b c v = (a ∷ b ∷ c ∷ 0 ∷ 0 ∷ 0 ∷ 0 ∷ 0 ∷ []) ++ digits 8 v
+recordOf a b c v = (a ∷ b ∷ c ∷ 0 ∷ 0 ∷ 0 ∷ 0 ∷ 0 ∷ []) ++ lowBytes 8 v

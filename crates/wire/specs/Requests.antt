@@ -13,7 +13,7 @@ use Rattle.steps.specs.Answers.{refusalNumber}
 use Rattle.steps.specs.Premises.{verdict}
 use Rattle.steps.specs.Requests.{isStep, fieldsFit, bucketFits, formal}
 use Rattle.wire.specs.Bytes.{number, blank, part, recordOf}
-use Rattle.wire.specs.Buffers.{room, answerOf, leaves}
+use Rattle.wire.specs.Buffers.{room, answerFor, leaves}
 use Rattle.wire.specs.declared.Reading.{Reading}
 
 -- byte 0 step, 1 bucket, 2 clean, 3 to 7 zero, 8 to 15 value
@@ -62,7 +62,7 @@ writable q l = formal q ++ room l ∷ []
 
 -- what is answered, and what the buffer holds then
 unfoldable pub wroteAnswer : Request → List ℕ → Answer
-wroteAnswer q l = answerOf (verdict (writable q l))
+wroteAnswer q l = answerFor (verdict (writable q l))
 
 unfoldable pub wroteTo : Request → List ℕ → List ℕ
 wroteTo q l = leaves (verdict (writable q l)) (bytesOf q) l

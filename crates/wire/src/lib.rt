@@ -11,7 +11,7 @@ mod numbers;
 use kinds::Bucket;
 use kinds::RECORD;
 use numbers::is_blank;
-use numbers::read_u64;
+pub use numbers::read_u64;
 use numbers::write_u64;
 use steps::Answer;
 use steps::Refusal;

@@ -1,11 +1,11 @@
 // Numbers as bytes, low byte first.
 ghost use mathlib.Core.Path.{_≡_};
 ghost use Prim.Native.Nat.{_≤_};
-ghost use lib.ListN.{length};
-ghost use Rattle.wire.specs.Bytes.{number, digits, blank};
+ghost use lib.ListN.{length, take};
+ghost use Rattle.wire.specs.Bytes.{number, lowBytes, blank};
 
 // The number that the bytes say, at most eight of them.
-pub fn read_u64(bytes: &[u8]) -> u64
+fn read_few(bytes: &[u8]) -> u64
     requires { ⌜ length (now bytes) ≤ 8 ⌝ }
     ensures { λ r. ⌜ r ≡ number (now (bytes .entry)) ⌝ }
 {
@@ -18,9 +18,19 @@ pub fn read_u64(bytes: &[u8]) -> u64
     v
 }
 
+// The number that the first eight bytes say, or all of them where there are fewer.
+pub fn read_u64(bytes: &[u8]) -> u64
+    ensures { λ r. ⌜ r ≡ number (take 8 (now (bytes .entry))) ⌝ }
+{
+    if 8 < bytes.len() {
+        return read_few(&bytes[..8]);
+    }
+    read_few(bytes)
+}
+
 // Fills the bytes with the low bytes of `v`.
 pub fn write_u64(bytes: &mut [u8], v: u64)
-    ensures { λ _. ⌜ now (bytes .exit) ≡ digits (length (now (bytes .entry))) v ⌝ }
+    ensures { λ _. ⌜ now (bytes .exit) ≡ lowBytes (length (now (bytes .entry))) v ⌝ }
 {
     let mut x = v;
     let mut k: usize = 0;

@@ -1,5 +1,5 @@
 -- `readers::blank_past` meets its contract. The loop's invariant: all entries past the length are blank where all that are left
--- are; a turn is one clause of `all`, by what `same` and `blank` ensure. Assumes nothing.
+-- are; a turn is one clause of `every`, by what `same` and `blank` ensure. Assumes nothing.
 use Prim.Native.Nat.{ℕ, _≤_, _<_, _-_}
 use mathlib.Core.Path.{_≡_, refl, _∙_, sym}
 use mathlib.Core.List.{List}
@@ -9,7 +9,7 @@ use borrow.Author.Tests.{not-true, not-false}
 use lib.ListN.{length, drop, length-map, drop-of-length-le}
 use Rattle.kinds.specs.Limits.{capacity}
 use Rattle.kinds.specs.declared.Reader.{Reader}
-use Rattle.readers.specs.Lists.{all}
+use Rattle.readers.specs.Lists.{every}
 use Rattle.readers.specs.Same.{sameReader}
 use Rattle.readers.specs.Listed.{blankReader}
 use Rattle.readers.proofs.Turns.{next}
@@ -18,7 +18,7 @@ use Rattle.readers.proofs.blank_past.Tie as tie
 
 record Checking (items : List Reader) (start i : ℕ) : Type 0 where
   full : length items ≡ capacity
-  whole : all (sameReader blankReader) (drop start items) ≡ all (sameReader blankReader) (drop i items)
+  whole : every (sameReader blankReader) (drop start items) ≡ every (sameReader blankReader) (drop i items)
 
 abbrev Inv-loop : tie.InvT-loop
 Inv-loop items i₀ i = Checking items i₀ i

@@ -7,7 +7,7 @@ use Rattle.kinds.specs.declared.Phase.{Phase}
 use Rattle.steps.specs.declared.Sought.{Sought}
 use Rattle.steps.specs.Steps.{reader}
 use Rattle.steps.specs.Decide.{soughtOf}
-use Rattle.steps.proofs.Numbers.{elsewhere, all-same}
+use Rattle.steps.proofs.Numbers.{elsewhere, every-same}
 use Rattle.steps.proofs.sought_by.Statement.{statement}
 use Rattle.steps.proofs.sought_by.Tie as tie
 
@@ -30,4 +30,4 @@ sought-by-spec =
     let somebody = (24, pending2) ∷ (23, pending) ∷ (22, obtained) ∷ (21, pending2) ∷ (20, pending) ∷ (4, obtained) ∷ [] in
     sym
     (elsewhere (replicate 25 Sought.Nobody) somebody (q .step) Sought.Nobody (c .match .rest)
-    ∙ all-same 25 (q .step) Sought.Nobody)))
+    ∙ every-same 25 (q .step) Sought.Nobody)))

@@ -7,10 +7,11 @@ use mathlib.Core.List.{List}
 use native.Mathlib.Omega.{arith}
 use borrow.Author.Needs.{needs}
 use borrow.Author.Tests.{not-true, not-false}
-use lib.ListN.{getD}
+use lib.ListN.{getD, drop}
+use lib.Seq.{take-take}
 use Rattle.steps.specs.declared.Request.{Request}
 use Rattle.steps.specs.Requests.{judged}
-use Rattle.wire.specs.Bytes.{blank, part}
+use Rattle.wire.specs.Bytes.{number, blank, part}
 use Rattle.wire.specs.Requests.{fieldsOf, readingOf, orBadField}
 use Rattle.wire.specs.declared.Reading.{Reading}
 use Rattle.wire.proofs.Premises.{read-ragged, read-fields, read-marked}
@@ -18,15 +19,22 @@ use Rattle.wire.proofs.read.Statement.{statement}
 use Rattle.wire.proofs.read.Tie as tie
 
 -- the bytes that are read
+abbrev lent : tie.After-read-u64 → List ℕ
+lent c = c .before .before .before .before .before .before .before .args .bytes .now
+
 abbrev read : tie.After-judge → List ℕ
-read c = c .before .before .before .before .before .before .before .before .args .bytes .now
+read c = lent (c .before)
 
 -- the fields at their places, but for the value
 abbrev holding : List ℕ → ℕ → Request
 holding l v = record { step = getD l 0 0; bucket = record { 0 = getD l 1 0 }; clean = getD l 2 0; value = v }
 
+-- the value at its place is eight bytes long, and all of it is read
+value-is : (c : tie.After-read-u64) → c .read-u64 .result ≡ fieldsOf (lent c) .value
+value-is c = c .read-u64 .ensures ∙ ap number (take-take 8 8 (drop 8 (lent c)) (omega arith))
+
 judged-is : (c : tie.After-judge) → c .judge .result ≡ judged (fieldsOf (read c))
-judged-is c = c .judge .ensures ∙ ap (λ (v : ℕ). judged (holding (read c) v)) (c .before .read-u64 .ensures)
+judged-is c = c .judge .ensures ∙ ap (λ (v : ℕ). judged (holding (read c) v)) (value-is (c .before))
 
 -- what the second test finds
 marked : (c : tie.Then2) → blank (part 3 8 (read (c .before .before .before))) ≡ false
@@ -60,7 +68,7 @@ read-spec =
     (λ c. search needs)
     (λ c.
     let p = c .before .before .before .before .before in
-    ap (λ (v : ℕ). Reading.Request (holding (read p) v)) (p .before .read-u64 .ensures)
+    ap (λ (v : ℕ). Reading.Request (holding (read p) v)) (value-is (p .before))
     ∙ ap (readingOf (fieldsOf (read p))) (sym (c .enum-told .given .1) ∙ judged-is p)
     ∙ read-fields (read p) (omega arith) (zeros (c .before .before)))
     (λ c.

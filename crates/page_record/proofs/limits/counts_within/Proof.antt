@@ -4,7 +4,7 @@ use borrow.Author.Needs.{needs}
 use lib.Dec.{leb}
 use Rattle.kinds.specs.Limits.{ceiling}
 use Rattle.kinds.specs.declared.Count.{Count}
-use Rattle.page_record.proofs.Lengths.{all-four}
+use Rattle.page_record.proofs.Lengths.{every-four}
 use Rattle.page_record.proofs.limits.counts_within.Statement.{statement}
 use Rattle.page_record.proofs.limits.counts_within.Tie as tie
 
@@ -16,4 +16,4 @@ counts-within-spec =
     (λ c. search needs)
     (λ c. search needs)
     (λ c. search needs)
-    (λ c. sym (all-four (λ (n : Count). leb (n .0) ceiling) (record { 0 = 0 }) (c .args .t1) (c .good .0 .1 .0 .1))))
+    (λ c. sym (every-four (λ (n : Count). leb (n .0) ceiling) (record { 0 = 0 }) (c .args .t1) (c .good .0 .1 .0 .1))))

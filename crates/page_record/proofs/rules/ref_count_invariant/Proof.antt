@@ -8,7 +8,7 @@ use Rattle.readers.specs.Listed.{live}
 use Rattle.page_record.specs.Pages.{numberAt}
 use Rattle.page_record.specs.References.{countAllRefs}
 use Rattle.page_record.specs.Rules.{everyBucket}
-use Rattle.page_record.proofs.Lengths.{all-four}
+use Rattle.page_record.proofs.Lengths.{every-four}
 use Rattle.page_record.proofs.rules.ref_count_invariant.Statement.{statement}
 use Rattle.page_record.proofs.rules.ref_count_invariant.Tie as tie
 
@@ -20,7 +20,7 @@ returns c =
     let s = r .before .before in
     let a = s .args in
     let four = eq-eqb _ _ (s .good .0 .1 .0 .1) in
-    let each = all-four (λ b. eqb (numberAt (a .t1) b) (countAllRefs (live (a .readers)) (a .e) (a .l) b)) 0 everyBucket refl in
+    let each = every-four (λ b. eqb (numberAt (a .t1) b) (countAllRefs (live (a .readers)) (a .e) (a .l) b)) 0 everyBucket refl in
     simp (c .count-right4 .ensures, p .count-right3 .ensures, q .count-right2 .ensures, r .count-right .ensures, four) (sym each)
 
 pub ref-count-invariant-spec : {M : Type 1} → statement M

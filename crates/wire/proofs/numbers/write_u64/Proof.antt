@@ -6,14 +6,14 @@ use native.Mathlib.Omega.{arith}
 use borrow.Author.Needs.{needs}
 use lib.ListN.{length, take, length-set}
 use lib.Seq.{take-all}
-use Rattle.wire.specs.Bytes.{digits}
+use Rattle.wire.specs.Bytes.{lowBytes}
 use Rattle.wire.proofs.Bytes.{stored}
 use Rattle.wire.proofs.numbers.write_u64.Statement.{statement}
 use Rattle.wire.proofs.numbers.write_u64.Tie as tie
 
 abbrev Inv-loop : tie.InvT-loop
 Inv-loop bytes₀ v x₀ k₀ bytes x k =
-    (k ≤ length bytes) × (length bytes ≡ length bytes₀) × (digits (length bytes₀) v ≡ take k bytes ++ digits (length bytes₀ - k) x)
+    (k ≤ length bytes) × (length bytes ≡ length bytes₀) × (lowBytes (length bytes₀) v ≡ take k bytes ++ lowBytes (length bytes₀ - k) x)
 
 abbrev μ-loop : tie.MeasureT-loop
 μ-loop bytes₀ v x₀ k₀ bytes x k = length bytes₀ - k

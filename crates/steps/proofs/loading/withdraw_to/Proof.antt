@@ -1,11 +1,11 @@
--- `steps::loading::withdraw_alloc` meets its contract: each return, by the tests, the kinds and the calls on the way to it.
+-- `steps::loading::withdraw_to` meets its contract: each return, by the tests, the kinds and the calls on the way to it.
 -- Assumes nothing.
 use Rattle.steps.proofs.Tests.{denied, granted}
-use Rattle.steps.proofs.loading.withdraw_alloc.Statement.{statement}
-use Rattle.steps.proofs.loading.withdraw_alloc.Tie as tie
+use Rattle.steps.proofs.loading.withdraw_to.Statement.{statement}
+use Rattle.steps.proofs.loading.withdraw_to.Tie as tie
 
-pub withdraw-alloc-spec : {M : Type 1} → statement M
-withdraw-alloc-spec =
+pub withdraw-to-spec : {M : Type 1} → statement M
+withdraw-to-spec =
     tie.close
     (tie.spec
     (λ c κs. tt)
