@@ -28,7 +28,8 @@ use Rattle.demands.specs.History.{Event, after, history, lastPut, lastWi
 use Rattle.demands.specs.Demand3.{Listed, Demand3}
 use Rattle.page_record.proofs.FreshPage.{fresh-sound}
 use Rattle.page_record.proofs.Tested.{facts}
-use Rattle.demands.proofs.Told.{Told, sound-after, tells, fresh-told}
+use Rattle.demands.proofs.Told.{Told, tells, fresh-told}
+use Rattle.demands.proofs.Kept.{sound-after}
 
 -- ---- what a sound head says of values, by its shape
 record Values (h : Head) : Type 0 where

@@ -1,3 +1,4 @@
+pub mod Kept
 pub mod Told
 pub mod Demand1
 pub mod Demand2

@@ -14,7 +14,6 @@ use Rattle.page_record.proofs.Tested.{facts}
 use Rattle.steps.specs.declared.Answer.{Answer}
 use Rattle.steps.specs.declared.Request.{Request}
 use Rattle.steps.specs.Premises.{verdict}
-use Rattle.lock.proofs.Keeps.{step-keeps}
 use Rattle.wire.specs.declared.Reading.{Reading}
 use Rattle.wire.specs.Answers.{lineOf}
 use Rattle.wire.specs.Requests.{fieldsOf, readable, readOf}
@@ -27,6 +26,7 @@ use Rattle.demands.specs.History.{Event, lineEvent, runHistory, answerLi
 use Rattle.demands.specs.Demand3.{Demand3}
 use Rattle.demands.proofs.Told.{Told, refused-tells, step-tells, fresh-told}
 use Rattle.demands.proofs.Demand3.{demanded}
+use Rattle.demands.proofs.Kept.{turn-keeps, run-keeps}
 
 -- ---- one line
 -- the request that is read has the fields of its bytes
@@ -35,13 +35,6 @@ unfolding readOf
 read-fields bytes q e = read-passed (fieldsOf bytes) q (verdict (readable bytes)) e .1
 
 module _ (p : Page) (bytes : List ℕ) where
-  pub turn-keeps : T (soundOf p) → T (soundOf (turnOf p bytes .page))
-  turn-keeps sound = go (readOf bytes) refl
-    where
-      go : (r : Reading) → readOf bytes ≡ r → T (soundOf (turnOf p bytes .page))
-      go (Reading.Request q) e = rw (turn-read p bytes q e) (step-keeps p q sound)
-      go (Reading.Refused why) e = rw (turn-refused p bytes why e) sound
-
   turn-tells : (fresh : ℕ) (past : List Event) → T (soundOf p) → Told fresh (headOf p) past
       → Told fresh (headOf (turnOf p bytes .page)) (lineEvent p bytes ∷ past)
   turn-tells fresh past sound told = go (readOf bytes) refl
@@ -51,10 +44,6 @@ module _ (p : Page) (bytes : List ℕ) where
       go (Reading.Refused why) e = rw (turn-refused p bytes why e) (refused-tells fresh (headOf p) past (fieldsOf bytes) why told)
 
 -- ---- all lines
-pub run-keeps : (p : Page) (rs : List (List ℕ)) → T (soundOf p) → T (soundOf (pageAfter p rs))
-run-keeps p [] sound = sound
-run-keeps p (r ∷ rs) sound = run-keeps (turnOf p r .page) rs (turn-keeps p r sound)
-
 run-tells : (fresh : ℕ) (p : Page) (past : List Event) (rs : List (List ℕ)) → T (soundOf p) → Told fresh (headOf p) past
     → Told fresh (headOf (pageAfter p rs)) (runHistory p rs past)
 run-tells fresh p past [] sound told = told

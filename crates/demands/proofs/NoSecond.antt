@@ -1,211 +1,237 @@
--- No second answer: for each public function of every crate, two results that both meet its promise are one, the lent bytes
--- and the lent page at exit included. Each promise is written as the contract has it. Assumes nothing.
-use Prim.Native.Nat.{ℕ}
+-- No second answer: for each public function of every crate, two results that both meet its contract are one, the bytes of a
+-- lent buffer at exit included. Each lemma speaks of the contract itself (`Post`, as the checker has it), so a promise that
+-- is weakened, or dropped, fails here. `apply` is proved by hand and its contract has no such name: its two equations are
+-- written out. Assumes nothing.
 use mathlib.Core.Path.{_≡_, sym, _∙_}
-use mathlib.Core.Bool.{Bool}
-use mathlib.Core.List.{List}
-use lib.ListN.{take}
-use Rattle.kinds.specs.Flags.{isAvailable, claimable, writebackDone, isUnmapped, openToReaders, notLoading, released, claimed, awaited, lockFlag}
-use Rattle.kinds.specs.Numbers.{flagNumber, phaseNumber}
-use Rattle.kinds.specs.declared.Bucket.{Bucket}
-use Rattle.kinds.specs.declared.Count.{Count}
-use Rattle.kinds.specs.declared.Flag.{Flag}
-use Rattle.kinds.specs.declared.Phase.{Phase}
-use Rattle.kinds.specs.declared.Reader.{Reader}
-use Rattle.readers.specs.declared.Readers.{Readers}
-use Rattle.readers.specs.declared.Found.{Found}
-use Rattle.readers.specs.declared.Pushed.{Pushed}
-use Rattle.readers.specs.Same.{sameReader}
-use Rattle.readers.specs.Listed.{live, blankReader, blankPast, findIn, countAt, countIn, noReaders, pushed, putAt, removedAt}
-use Rattle.page_record.specs.declared.Head.{Head}
 use Rattle.page_record.specs.declared.Page.{Page}
-use Rattle.page_record.specs.Pages.{headOf, pageOf, freshPage}
-use Rattle.page_record.specs.Rules.{lowestBroken, soundOf, soundNumber}
-use Rattle.page_record.specs.Census.{censusOf}
-use Rattle.steps.specs.declared.Request.{Request}
-use Rattle.steps.specs.declared.Refusal.{Refusal}
 use Rattle.steps.specs.declared.Answer.{Answer}
-use Rattle.steps.specs.declared.Verdict.{Verdict}
-use Rattle.steps.specs.declared.Sought.{Sought}
-use Rattle.steps.specs.declared.Decision.{Decision}
-use Rattle.steps.specs.Answers.{refusalNumber, answerNumber, withdraws, answerValue}
-use Rattle.steps.specs.Requests.{isStep, takesBucket, takesClean, takesValue, judged}
-use Rattle.steps.specs.Decide.{decideOf, soughtOf}
-use Rattle.lock.specs.declared.Outcome.{Outcome}
+use Rattle.steps.specs.declared.Request.{Request}
 use Rattle.lock.specs.Step.{stepOf}
-use Rattle.wire.specs.declared.Reading.{Reading}
-use Rattle.wire.specs.Answers.{lineOf}
-use Rattle.wire.specs.Buffers.{putAnswer, putTo}
-use Rattle.wire.specs.Bytes.{number}
-use Rattle.wire.specs.Requests.{readOf, wroteAnswer, wroteTo}
-use Rattle.replay.specs.Run.{ranOf, answersOf}
-use Rattle.replay.specs.Reply.{replyLength, replyBytes}
+use Rattle.kinds.proofs.is_available.Reads as is-available-contract
+use Rattle.kinds.proofs.claimable.Reads as claimable-contract
+use Rattle.kinds.proofs.writeback_done.Reads as writeback-done-contract
+use Rattle.kinds.proofs.is_unmapped.Reads as is-unmapped-contract
+use Rattle.kinds.proofs.open_to_readers.Reads as open-to-readers-contract
+use Rattle.kinds.proofs.not_loading.Reads as not-loading-contract
+use Rattle.kinds.proofs.released.Reads as released-contract
+use Rattle.kinds.proofs.claimed.Reads as claimed-contract
+use Rattle.kinds.proofs.awaited.Reads as awaited-contract
+use Rattle.kinds.proofs.lock_flag.Reads as lock-flag-contract
+use Rattle.kinds.proofs.flag_number.Reads as flag-number-contract
+use Rattle.kinds.proofs.phase_number.Reads as phase-number-contract
+use Rattle.readers.proofs.same.Reads as same-contract
+use Rattle.readers.proofs.blank.Reads as blank-contract
+use Rattle.readers.proofs.empty.Reads as empty-contract
+use Rattle.readers.proofs.find.Reads as find-contract
+use Rattle.readers.proofs.count_at.Reads as count-at-contract
+use Rattle.readers.proofs.count_in.Reads as count-in-contract
+use Rattle.readers.proofs.blank_past.Reads as blank-past-contract
+use Rattle.readers.proofs.push.Reads as push-contract
+use Rattle.readers.proofs.put.Reads as put-contract
+use Rattle.readers.proofs.remove.Reads as remove-contract
+use Rattle.page_record.proofs.fresh.Reads as fresh-contract
+use Rattle.page_record.proofs.head_of.Reads as head-of-contract
+use Rattle.page_record.proofs.page_of.Reads as page-of-contract
+use Rattle.page_record.proofs.broken_rule.Reads as broken-rule-contract
+use Rattle.page_record.proofs.is_sound.Reads as is-sound-contract
+use Rattle.page_record.proofs.sound.Reads as sound-contract
+use Rattle.page_record.proofs.census.Reads as census-contract
+use Rattle.steps.proofs.is_step.Reads as is-step-contract
+use Rattle.steps.proofs.takes_bucket.Reads as takes-bucket-contract
+use Rattle.steps.proofs.takes_clean.Reads as takes-clean-contract
+use Rattle.steps.proofs.takes_value.Reads as takes-value-contract
+use Rattle.steps.proofs.judge.Reads as judge-contract
+use Rattle.steps.proofs.sought_by.Reads as sought-by-contract
+use Rattle.steps.proofs.decide.Reads as decide-contract
+use Rattle.steps.proofs.refusal_number.Reads as refusal-number-contract
+use Rattle.steps.proofs.answer_number.Reads as answer-number-contract
+use Rattle.steps.proofs.carries.Reads as carries-contract
+use Rattle.steps.proofs.answer_value.Reads as answer-value-contract
+use Rattle.lock.proofs.step.Reads as step-contract
+use Rattle.lock.proofs.lend.Reads as lend-contract
+use Rattle.wire.proofs.read.Reads as read-contract
+use Rattle.wire.proofs.read_u64.Reads as read-u64-contract
+use Rattle.wire.proofs.write.Reads as write-contract
+use Rattle.wire.proofs.write_answer.Reads as write-answer-contract
+use Rattle.replay.proofs.run.Reads as run-contract
+use Rattle.replay.proofs.reply.Reads as reply-contract
+
+-- ---- what is stated
+-- a contract says of the lifetimes, the arguments at entry, the result and the arguments at exit whether they meet it
+abbrev pub Contract : Type 0 → Type 0 → Type 0 → Type 0 → Type 1
+Contract K I R O = K → I → R → O → Type 0
+
+-- at most one result meets it
+abbrev pub Only : {K I R O : Type 0} → Contract K I R O → Type 0
+Only {K} {I} {R} {O} Post = (κ : K) (i : I) (o o′ : O) (x y : R) → Post κ i x o → Post κ i y o′ → x ≡ y
+
+-- at most one result, and one content of what is lent, at exit
+abbrev pub OnlyWith : {K I R O B : Type 0} → (O → B) → Contract K I R O → Type 0
+OnlyWith {K} {I} {R} {O} lent Post = (κ : K) (i : I) (o o′ : O) (x y : R) → Post κ i x o → Post κ i y o′ → (x ≡ y) × (lent o ≡ lent o′)
 
 -- ---- the two laws
--- at most one result meets the promise
-abbrev pub Only : {A : Type 0} → (A → Type 0) → Type 0
-Only {A} Promise = (x y : A) → Promise x → Promise y → x ≡ y
-
 -- an equation
-pub equation : {A : Type 0} (z : A) → Only (λ (x : A). x ≡ z)
-equation z x y e f = e ∙ sym f
+pub equation : {K I R O : Type 0} (f : I → R) → Only (λ (κ : K) (i : I) (r : R) (o : O). r ≡ f i)
+equation f κ i o o′ x y d e = d ∙ sym e
 
--- an equation for the result and one for what was lent, at exit
-pub equations : {A B : Type 0} (a : A) (b : B) → Only (λ (x : A × B). (x .0 ≡ a) × (x .1 ≡ b))
-equations a b x y e f = λ i. ((e .0 ∙ sym (f .0)) i, (e .1 ∙ sym (f .1)) i)
+-- an equation for the result and one for what is lent, at exit
+pub equations : {K I R O B : Type 0} (lent : O → B) (f : I → R) (g : I → B)
+    → OnlyWith lent (λ (κ : K) (i : I) (r : R) (o : O). (r ≡ f i) × (lent o ≡ g i))
+equations lent f g κ i o o′ x y d e = (d .0 ∙ sym (e .0), d .1 ∙ sym (e .1))
 
 -- ---- kinds
-pub is-available : (f : Flag) → Only (λ (r : Bool). r ≡ isAvailable f)
-is-available f = equation (isAvailable f)
+pub is-available : Only is-available-contract.Post
+is-available = equation _
 
-pub is-claimable : (f : Flag) → Only (λ (r : Bool). r ≡ claimable f)
-is-claimable f = equation (claimable f)
+pub claimable : Only claimable-contract.Post
+claimable = equation _
 
-pub writeback-done : (f : Flag) → Only (λ (r : Bool). r ≡ writebackDone f)
-writeback-done f = equation (writebackDone f)
+pub writeback-done : Only writeback-done-contract.Post
+writeback-done = equation _
 
-pub is-unmapped : (f : Flag) → Only (λ (r : Bool). r ≡ isUnmapped f)
-is-unmapped f = equation (isUnmapped f)
+pub is-unmapped : Only is-unmapped-contract.Post
+is-unmapped = equation _
 
-pub open-to-readers : (f : Flag) → Only (λ (r : Bool). r ≡ openToReaders f)
-open-to-readers f = equation (openToReaders f)
+pub open-to-readers : Only open-to-readers-contract.Post
+open-to-readers = equation _
 
-pub not-loading : (f : Flag) → Only (λ (r : Bool). r ≡ notLoading f)
-not-loading f = equation (notLoading f)
+pub not-loading : Only not-loading-contract.Post
+not-loading = equation _
 
-pub after-release : (f : Flag) → Only (λ (r : Flag). r ≡ released f)
-after-release f = equation (released f)
+pub released : Only released-contract.Post
+released = equation _
 
-pub after-claim : (f : Flag) → Only (λ (r : Flag). r ≡ claimed f)
-after-claim f = equation (claimed f)
+pub claimed : Only claimed-contract.Post
+claimed = equation _
 
-pub after-await : (f : Flag) → Only (λ (r : Flag). r ≡ awaited f)
-after-await f = equation (awaited f)
+pub awaited : Only awaited-contract.Post
+awaited = equation _
 
-pub lock-flag : (clean : Bool) → Only (λ (r : Flag). r ≡ lockFlag clean)
-lock-flag clean = equation (lockFlag clean)
+pub lock-flag : Only lock-flag-contract.Post
+lock-flag = equation _
 
-pub flag-number : (f : Flag) → Only (λ (r : ℕ). r ≡ flagNumber f)
-flag-number f = equation (flagNumber f)
+pub flag-number : Only flag-number-contract.Post
+flag-number = equation _
 
-pub phase-number : (p : Phase) → Only (λ (r : ℕ). r ≡ phaseNumber p)
-phase-number p = equation (phaseNumber p)
+pub phase-number : Only phase-number-contract.Post
+phase-number = equation _
 
 -- ---- readers
-pub same : (a b : Reader) → Only (λ (r : Bool). r ≡ sameReader a b)
-same a b = equation (sameReader a b)
+pub same : Only same-contract.Post
+same = equation _
 
-pub blank : Only (λ (r : Reader). r ≡ blankReader)
-blank = equation blankReader
+pub blank : Only blank-contract.Post
+blank = equation _
 
-pub empty : Only (λ (r : Readers). r ≡ noReaders)
-empty = equation noReaders
+pub empty : Only empty-contract.Post
+empty = equation _
 
-pub find : (rs : Readers) (want : Reader) → Only (λ (r : Found). r ≡ findIn (live rs) want)
-find rs want = equation (findIn (live rs) want)
+pub find : Only find-contract.Post
+find = equation _
 
-pub count-at : (rs : Readers) (b : Bucket) → Only (λ (r : ℕ). r ≡ countAt (b .0) (live rs))
-count-at rs b = equation (countAt (b .0) (live rs))
+pub count-at : Only count-at-contract.Post
+count-at = equation _
 
-pub count-in : (rs : Readers) (b : Bucket) (phase : ℕ) → Only (λ (r : ℕ). r ≡ countIn (b .0) phase (live rs))
-count-in rs b phase = equation (countIn (b .0) phase (live rs))
+pub count-in : Only count-in-contract.Post
+count-in = equation _
 
-pub blank-past : (rs : Readers) → Only (λ (r : Bool). r ≡ blankPast rs)
-blank-past rs = equation (blankPast rs)
+pub blank-past : Only blank-past-contract.Post
+blank-past = equation _
 
-pub push : (rs : Readers) (r : Reader) → Only (λ (p : Pushed). p ≡ pushed rs r)
-push rs r = equation (pushed rs r)
+pub push : Only push-contract.Post
+push = equation _
 
-pub put : (rs : Readers) (at : ℕ) (r : Reader) → Only (λ (p : Readers). p ≡ putAt rs at r)
-put rs at r = equation (putAt rs at r)
+pub put : Only put-contract.Post
+put = equation _
 
-pub remove : (rs : Readers) (at : ℕ) → Only (λ (p : Readers). p ≡ removedAt rs at)
-remove rs at = equation (removedAt rs at)
+pub remove : Only remove-contract.Post
+remove = equation _
 
 -- ---- page_record
-pub fresh : (value : ℕ) → Only (λ (r : Page). r ≡ freshPage value)
-fresh value = equation (freshPage value)
+pub fresh : Only fresh-contract.Post
+fresh = equation _
 
-pub head-of : (p : Page) → Only (λ (r : Head). r ≡ headOf p)
-head-of p = equation (headOf p)
+pub head-of : Only head-of-contract.Post
+head-of = equation _
 
-pub page-of : (h : Head) (rs : Readers) → Only (λ (r : Page). r ≡ pageOf h rs)
-page-of h rs = equation (pageOf h rs)
+pub page-of : Only page-of-contract.Post
+page-of = equation _
 
-pub broken-rule : (p : Page) → Only (λ (r : ℕ). r ≡ lowestBroken p)
-broken-rule p = equation (lowestBroken p)
+pub broken-rule : Only broken-rule-contract.Post
+broken-rule = equation _
 
-pub is-sound : (p : Page) → Only (λ (r : Bool). r ≡ soundOf p)
-is-sound p = equation (soundOf p)
+pub is-sound : Only is-sound-contract.Post
+is-sound = equation _
 
-pub sound : (p : Page) → Only (λ (r : ℕ). r ≡ soundNumber p)
-sound p = equation (soundNumber p)
+pub sound : Only sound-contract.Post
+sound = equation _
 
-pub census : (p : Page) → Only (λ (r : List (List Count)). r ≡ censusOf p)
-census p = equation (censusOf p)
+pub census : Only census-contract.Post
+census = equation _
 
 -- ---- steps
-pub is-step : (n : ℕ) → Only (λ (r : Bool). r ≡ isStep n)
-is-step n = equation (isStep n)
+pub is-step : Only is-step-contract.Post
+is-step = equation _
 
-pub takes-bucket : (n : ℕ) → Only (λ (r : Bool). r ≡ takesBucket n)
-takes-bucket n = equation (takesBucket n)
+pub takes-bucket : Only takes-bucket-contract.Post
+takes-bucket = equation _
 
-pub takes-clean : (n : ℕ) → Only (λ (r : Bool). r ≡ takesClean n)
-takes-clean n = equation (takesClean n)
+pub takes-clean : Only takes-clean-contract.Post
+takes-clean = equation _
 
-pub takes-value : (n : ℕ) → Only (λ (r : Bool). r ≡ takesValue n)
-takes-value n = equation (takesValue n)
+pub takes-value : Only takes-value-contract.Post
+takes-value = equation _
 
-pub judge : (q : Request) → Only (λ (r : Verdict). r ≡ judged q)
-judge q = equation (judged q)
+pub judge : Only judge-contract.Post
+judge = equation _
 
-pub sought-by : (q : Request) → Only (λ (r : Sought). r ≡ soughtOf q)
-sought-by q = equation (soughtOf q)
+pub sought-by : Only sought-by-contract.Post
+sought-by = equation _
 
-pub decide : (h : Head) (q : Request) (found : Found) (full : Bool) → Only (λ (r : Decision). r ≡ decideOf h q found full)
-decide h q found full = equation (decideOf h q found full)
+pub decide : Only decide-contract.Post
+decide = equation _
 
-pub refusal-number : (why : Refusal) → Only (λ (r : ℕ). r ≡ refusalNumber why)
-refusal-number why = equation (refusalNumber why)
+pub refusal-number : Only refusal-number-contract.Post
+refusal-number = equation _
 
-pub answer-number : (a : Answer) → Only (λ (r : ℕ). r ≡ answerNumber a)
-answer-number a = equation (answerNumber a)
+pub answer-number : Only answer-number-contract.Post
+answer-number = equation _
 
-pub carries : (a : Answer) → Only (λ (r : Bool). r ≡ withdraws a)
-carries a = equation (withdraws a)
+pub carries : Only carries-contract.Post
+carries = equation _
 
-pub answer-value : (a : Answer) → Only (λ (r : ℕ). r ≡ answerValue a)
-answer-value a = equation (answerValue a)
+pub answer-value : Only answer-value-contract.Post
+answer-value = equation _
 
 -- ---- lock
-pub step : (p : Page) (q : Request) → Only (λ (r : Outcome). r ≡ stepOf p q)
-step p q = equation (stepOf p q)
+pub step : Only step-contract.Post
+step = equation _
+
+pub lend : Only lend-contract.Post
+lend = equation _
 
 -- the answer, and the lent page at exit
-pub apply : (p : Page) (q : Request) → Only (λ (r : Answer × Page). (r .0 ≡ stepOf p q .answer) × (r .1 ≡ stepOf p q .page))
-apply p q = equations (stepOf p q .answer) (stepOf p q .page)
-
-pub lend : (p : Page) (q : Request) → Only (λ (r : Outcome). r ≡ stepOf p q)
-lend p q = equation (stepOf p q)
+pub apply : (p : Page) (q : Request) (x y : Answer × Page)
+    → (x .0 ≡ stepOf p q .answer) × (x .1 ≡ stepOf p q .page) → (y .0 ≡ stepOf p q .answer) × (y .1 ≡ stepOf p q .page)
+    → (x .0 ≡ y .0) × (x .1 ≡ y .1)
+apply p q x y d e = (d .0 ∙ sym (e .0), d .1 ∙ sym (e .1))
 
 -- ---- wire
-pub read-u64 : (bytes : List ℕ) → Only (λ (r : ℕ). r ≡ number (take 8 bytes))
-read-u64 bytes = equation (number (take 8 bytes))
+pub read : Only read-contract.Post
+read = equation _
 
-pub read : (bytes : List ℕ) → Only (λ (r : Reading). r ≡ readOf bytes)
-read bytes = equation (readOf bytes)
+pub read-u64 : Only read-u64-contract.Post
+read-u64 = equation _
 
--- the answer, and the lent bytes at exit
-pub write : (q : Request) (buffer : List ℕ) → Only (λ (r : Answer × List ℕ). (r .0 ≡ wroteAnswer q buffer) × (r .1 ≡ wroteTo q buffer))
-write q buffer = equations (wroteAnswer q buffer) (wroteTo q buffer)
+pub write : OnlyWith (λ o. o .1 .0 .now) write-contract.Post
+write = equations (λ o. o .1 .0 .now) _ _
 
-pub write-answer : (a : Answer) (buffer : List ℕ) → Only (λ (r : Answer × List ℕ). (r .0 ≡ putAnswer buffer) × (r .1 ≡ putTo (lineOf a) buffer))
-write-answer a buffer = equations (putAnswer buffer) (putTo (lineOf a) buffer)
+pub write-answer : OnlyWith (λ o. o .1 .0 .now) write-answer-contract.Post
+write-answer = equations (λ o. o .1 .0 .now) _ _
 
 -- ---- replay
-pub run : (p : Page) (requests answers : List ℕ) → Only (λ (r : Outcome × List ℕ). (r .0 ≡ ranOf p requests answers) × (r .1 ≡ answersOf p requests answers))
-run p requests answers = equations (ranOf p requests answers) (answersOf p requests answers)
+pub run : OnlyWith (λ o. o .1 .1 .0 .now) run-contract.Post
+run = equations (λ o. o .1 .1 .0 .now) _ _
 
-pub reply : (kept : List ℕ) (total : ℕ) (out : List ℕ) → Only (λ (r : ℕ × List ℕ). (r .0 ≡ replyLength kept total out) × (r .1 ≡ replyBytes kept total out))
-reply kept total out = equations (replyLength kept total out) (replyBytes kept total out)
+pub reply : OnlyWith (λ o. o .1 .1 .0 .now) reply-contract.Post
+reply = equations (λ o. o .1 .1 .0 .now) _ _

@@ -264,10 +264,6 @@ module _ (fresh : ℕ) (p : Page) (q : Request) (past : List Event) where
       go (Verdict.Failed why) e = refused-tells fresh (headOf p) past q why told
 
 -- ---- any requests
-pub sound-after : (p : Page) (qs : List Request) → T (soundOf p) → T (soundOf (after p qs))
-sound-after p [] sound = sound
-sound-after p (q ∷ qs) sound = sound-after (stepOf p q .page) qs (step-keeps p q sound)
-
 pub tells : (fresh : ℕ) (p : Page) (past : List Event) (qs : List Request) → T (soundOf p) → Told fresh (headOf p) past
     → Told fresh (headOf (after p qs)) (history p qs past)
 tells fresh p past [] sound told = told

@@ -366,7 +366,7 @@ module _ (p : Page) (b : Bucket) (clean value : ℕ) (closed : excVisited (p .«
       & tt
 
 -- ---- numbers 2, 3 and 4
-step-known : (n : ℕ) → isStep n ≡ not (eqb n 0 || ltb 24 n)
+pub step-known : (n : ℕ) → isStep n ≡ not (eqb n 0 || ltb 24 n)
 step-known zero = refl
 step-known (suc n) = rw (le-leb 1 (suc n) (omega arith), ne-eqb (suc n) 0 (λ e. omega arith)) (leb-ltb (suc n) 24)
 

@@ -98,7 +98,7 @@ length-taken : (n : ℕ) (l : List ℕ) → length (take n l) ≤ n
 length-taken n l = simp length-take (omega arith)
 
 -- the fields of bytes are as wide as the code holds them
-in-range : (l : List ℕ) → Bytes l → InRange (fieldsOf l)
+pub in-range : (l : List ℕ) → Bytes l → InRange (fieldsOf l)
 in-range l bytes =
     record {
       step = bytes 0;
