@@ -2,11 +2,9 @@
 -- the round trips of `wire`. Assumes nothing.
 use Prim.Native.Nat.{ℕ}
 use mathlib.Core.Path.{_≡_, ap, sym, _∙_}
-use mathlib.Core.Logic.{_↔_}
 use mathlib.Core.List.{List, [], _∷_}
 use native.Mathlib.Omega.{arith}
 use lib.ListN.{length, take}
-use lib.Seq.{take-all}
 use Rattle.kinds.specs.Limits.{recordSize}
 use Rattle.readers.proofs.Tests.{is-true}
 use Rattle.steps.specs.declared.Answer.{Answer}
@@ -14,8 +12,6 @@ use Rattle.steps.specs.declared.Request.{Request}
 use Rattle.steps.specs.declared.Verdict.{Verdict}
 use Rattle.steps.specs.Premises.{verdict}
 use Rattle.steps.specs.Requests.{formal, judged}
-use Rattle.lock.specs.declared.Outcome.{Outcome}
-use Rattle.lock.specs.Moves.{answerOf}
 use Rattle.lock.proofs.Exact.{exact}
 use Rattle.wire.specs.declared.Reading.{Reading}
 use Rattle.wire.specs.Buffers.{room}

@@ -1,7 +1,7 @@
 -- Demand 3, proved: the history tells of counts, storage and the values handed out (proofs/Told.antt); soundness carries
 -- storage's value to every holder, and shuts readers and the archive out while the page is out. Assumes nothing.
 use Prim.Native.Nat.{ℕ}
-use mathlib.Core.Path.{_≡_, refl, sym, ap, _∙_}
+use mathlib.Core.Path.{_≡_, refl, ap, _∙_}
 use mathlib.Core.Bool.{Bool, true, false, not, cond, _&&_, _||_}
 use mathlib.Core.List.{List, []}
 use native.Mathlib.Omega.{arith}
@@ -11,24 +11,24 @@ use Rattle.kinds.specs.declared.Phase.{Phase}
 use Rattle.kinds.specs.declared.Reader.{Reader}
 use Rattle.kinds.specs.declared.Storage.{Storage}
 use Rattle.kinds.specs.declared.WritebackState.{WritebackState}
+use Rattle.kinds.specs.Limits.{buckets}
+use Rattle.kinds.specs.Numbers.{phaseNumber}
 use Rattle.readers.specs.Listed.{live, blankReader}
 use Rattle.readers.proofs.Lists.{every-at}
 use Rattle.page_record.specs.declared.Head.{Head}
 use Rattle.page_record.specs.declared.Page.{Page}
 use Rattle.page_record.specs.Holders.{isStored, isClaim, isAwait, isPending, isEditing, excVisited, excValue}
-use Rattle.kinds.specs.Limits.{buckets}
-use Rattle.kinds.specs.Numbers.{phaseNumber}
 use Rattle.page_record.specs.Pages.{headOf, freshPage}
 use Rattle.page_record.specs.Facts.{Sound}
 use Rattle.page_record.specs.Shapes.{Shape, unmapped, waiting, counted, loaded, available, claimed, writeback, writebackClaimed, writebackAwait, await, pending, editing, headAt, valid}
 use Rattle.page_record.proofs.Shapes.{by-shape, is-holding}
 use Rattle.page_record.proofs.Known.{hold-iff, valid-phase, readerPending, listed-valid, closed-pending}
+use Rattle.page_record.proofs.FreshPage.{fresh-sound}
+use Rattle.page_record.proofs.Tested.{facts}
 use Rattle.steps.specs.declared.Request.{Request}
 use Rattle.demands.specs.History.{Event, after, history, lastPut, lastWithdrew}
 use Rattle.demands.specs.Demand3.{Listed, Demand3}
-use Rattle.page_record.proofs.FreshPage.{fresh-sound}
-use Rattle.page_record.proofs.Tested.{facts}
-use Rattle.demands.proofs.Told.{Told, tells, fresh-told}
+use Rattle.demands.proofs.Told.{Told, put-in, tells, fresh-told}
 use Rattle.demands.proofs.Kept.{sound-after}
 
 -- ---- what a sound head says of values, by its shape
@@ -70,12 +70,8 @@ module _ (fresh : ℕ) (p : Page) (past : List Event) (s : Sound (headOf p) (liv
   values : Values h
   values = by-shape Values values-at h (s .head)
 
-  put-in : (v : ℕ) → p .storage ≡ Storage.In v → v ≡ lastPut fresh past
-  put-in v e = go (lastWithdrew past) (sym e ∙ told .stored)
-    where
-      go : (t : Bool) → Storage.In v ≡ cond t Storage.Out (Storage.In (lastPut fresh past)) → v ≡ lastPut fresh past
-      go true f = absurd (let z : _≡_ {A = ℕ} 0 1 = cc in omega arith)
-      go false f = cc
+  was-put : (v : ℕ) → p .storage ≡ Storage.In v → v ≡ lastPut fresh past
+  was-put = put-in fresh (p .storage) past (told .stored)
 
   out-is : isStored (p .storage) ≡ not (lastWithdrew past)
   out-is = ap isStored (told .stored) ∙ go (lastWithdrew past)
@@ -107,10 +103,10 @@ module _ (fresh : ℕ) (p : Page) (past : List Event) (s : Sound (headOf p) (liv
     counted = λ b k. told .balance b;
     referred = s .counts;
     out = out-is;
-    stored = put-in;
-    read = λ r at v e. put-in v (reads r at v e);
-    claimed = λ t. put-in (excValue (p .«exc_state»)) (values .claimant t);
-    written = λ v e. put-in v (values .archive v e);
+    stored = was-put;
+    read = λ r at v e. was-put v (reads r at v e);
+    claimed = λ t. was-put (excValue (p .«exc_state»)) (values .claimant t);
+    written = λ v e. was-put v (values .archive v e);
     returned = told .handed;
     unread = λ o r at v e. apart v o (reads r at v e);
     unwritten = idle (p .«writeback_state») refl;

@@ -1,6 +1,5 @@
--- Demand 3 for a run: its requests come as bytes and its answers as lines. The history of a run has an event for each line,
--- in the same order (`lines-told`), and what demand 3 says holds of the page that the run leaves (`demand3-run`).
--- Assumes nothing.
+-- Demand 3 for runs: requests come as bytes and answers as lines. A run adds an event for each of its lines, in the same order
+-- (`lines-told`), and what demand 3 says holds of the page after any runs from a fresh page (`demand3-runs`). Assumes nothing.
 use Prim.Native.Nat.{ℕ}
 use mathlib.Core.Path.{_≡_, refl, sym, ap, _∙_}
 use mathlib.Core.List.{List, [], _∷_, _++_, append-assoc, append-nil}
@@ -13,16 +12,17 @@ use Rattle.page_record.proofs.FreshPage.{fresh-sound}
 use Rattle.page_record.proofs.Tested.{facts}
 use Rattle.steps.specs.declared.Answer.{Answer}
 use Rattle.steps.specs.declared.Request.{Request}
+use Rattle.steps.specs.declared.Verdict.{Verdict}
 use Rattle.steps.specs.Premises.{verdict}
 use Rattle.wire.specs.declared.Reading.{Reading}
 use Rattle.wire.specs.Answers.{lineOf}
 use Rattle.wire.specs.Requests.{fieldsOf, readable, readOf}
 use Rattle.wire.proofs.Premises.{read-passed}
 use Rattle.replay.specs.Turns.{turnOf}
-use Rattle.replay.specs.Run.{requestsOf, pageAfter, linesOf, ranOf, answersOf}
+use Rattle.replay.specs.Run.{requestsOf, pageAfter, linesOf, runVerdict, ends, ranOf, answersOf}
 use Rattle.replay.proofs.Pages.{turn-read, turn-refused}
-use Rattle.replay.proofs.Lines.{answers-are, page-end}
-use Rattle.demands.specs.History.{Event, lineEvent, runHistory, answerLines}
+use Rattle.replay.proofs.Lines.{answers-are}
+use Rattle.demands.specs.History.{Event, lineEvent, runHistory, Given, afterRuns, added, runsHistory, answerLines}
 use Rattle.demands.specs.Demand3.{Demand3}
 use Rattle.demands.proofs.Told.{Told, refused-tells, step-tells, fresh-told}
 use Rattle.demands.proofs.Demand3.{demanded}
@@ -55,21 +55,34 @@ lines-from : (p : Page) (rs : List (List ℕ)) (past : List Event) → answerLin
 lines-from p [] past = sym (append-nil (answerLines past))
 lines-from p (r ∷ rs) past = lines-from (turnOf p r .page) rs (lineEvent p r ∷ past) ∙ append-assoc (answerLines past) (lineOf (turnOf p r .answer)) (linesOf (turnOf p r .page) rs)
 
--- ---- an accepted run from a fresh page
-module _ (fresh : ℕ) (requests answers : List ℕ) (accepted : ranOf (freshPage fresh) requests answers .answer ≡ Answer.Accepted) where
-  abbrev past : List Event
-  past = runHistory (freshPage fresh) (requestsOf requests) []
+-- ---- a run
+-- the answers of an accepted run are the lines of the events that it adds, and what stood past them
+pub lines-told : (p : Page) (requests answers : List ℕ) → ranOf p requests answers .answer ≡ Answer.Accepted
+    → answersOf p requests answers ≡ answerLines (runHistory p (requestsOf requests) []) ++ drop (length requests) answers
+lines-told p requests answers accepted =
+    answers-are p requests answers accepted
+    ∙ ap (λ (l : List ℕ). l ++ drop (length requests) answers) (sym (lines-from p (requestsOf requests) []))
 
-  -- its answers are the history's lines, and what stood past them
-  pub lines-told : answersOf (freshPage fresh) requests answers ≡ answerLines past ++ drop (length requests) answers
-  lines-told =
-      answers-are (freshPage fresh) requests answers accepted
-      ∙ ap (λ (l : List ℕ). l ++ drop (length requests) answers) (sym (lines-from (freshPage fresh) (requestsOf requests) []))
+-- after a run, however it was judged, the page is sound and the history tells of it
+module _ (fresh : ℕ) (p : Page) (past : List Event) (requests : List ℕ) where
+  ended-sound : T (soundOf p) → (v : Verdict) → T (soundOf (ends p requests v .page))
+  ended-sound sound Verdict.Passed = run-keeps p (requestsOf requests) sound
+  ended-sound sound (Verdict.Failed why) = sound
 
-  -- demand 3 holds of the page that it leaves
-  pub demand3-run : Demand3 fresh (ranOf (freshPage fresh) requests answers .page) past
-  demand3-run =
-      let p = freshPage fresh in
-      let rs = requestsOf requests in
-      rw (page-end p requests answers accepted)
-      (demanded fresh (pageAfter p rs) past (facts (pageAfter p rs) (run-keeps p rs (fresh-sound fresh)) .parts) (run-tells fresh p [] rs (fresh-sound fresh) (fresh-told fresh)))
+  ended-told : T (soundOf p) → Told fresh (headOf p) past → (v : Verdict) → Told fresh (headOf (ends p requests v .page)) (added p requests past v)
+  ended-told sound told Verdict.Passed = run-tells fresh p past (requestsOf requests) sound told
+  ended-told sound told (Verdict.Failed why) = told
+
+-- ---- run after run
+runs-demanded : (fresh : ℕ) (p : Page) (past : List Event) (gs : List Given) → T (soundOf p) → Told fresh (headOf p) past
+    → Demand3 fresh (afterRuns p gs) (runsHistory p gs past)
+unfolding ranOf
+runs-demanded fresh p past [] sound told = demanded fresh p past (facts p sound .parts) told
+runs-demanded fresh p past (g ∷ gs) sound told =
+    let v = runVerdict p (length (g .requests)) (length (g .answers)) in
+    runs-demanded fresh (ends p (g .requests) v .page) (added p (g .requests) past v) gs
+    (ended-sound fresh p past (g .requests) sound v) (ended-told fresh p past (g .requests) sound told v)
+
+-- from a fresh page, after any runs, refused ones among them
+pub demand3-runs : (fresh : ℕ) (gs : List Given) → Demand3 fresh (afterRuns (freshPage fresh) gs) (runsHistory (freshPage fresh) gs [])
+demand3-runs fresh gs = runs-demanded fresh (freshPage fresh) [] gs (fresh-sound fresh) (fresh-told fresh)

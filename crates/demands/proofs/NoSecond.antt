@@ -3,10 +3,6 @@
 -- is weakened, or dropped, fails here. `apply` is proved by hand and its contract has no such name: its two equations are
 -- written out. Assumes nothing.
 use mathlib.Core.Path.{_≡_, sym, _∙_}
-use Rattle.page_record.specs.declared.Page.{Page}
-use Rattle.steps.specs.declared.Answer.{Answer}
-use Rattle.steps.specs.declared.Request.{Request}
-use Rattle.lock.specs.Step.{stepOf}
 use Rattle.kinds.proofs.is_available.Reads as is-available-contract
 use Rattle.kinds.proofs.claimable.Reads as claimable-contract
 use Rattle.kinds.proofs.writeback_done.Reads as writeback-done-contract
@@ -29,6 +25,7 @@ use Rattle.readers.proofs.blank_past.Reads as blank-past-contract
 use Rattle.readers.proofs.push.Reads as push-contract
 use Rattle.readers.proofs.put.Reads as put-contract
 use Rattle.readers.proofs.remove.Reads as remove-contract
+use Rattle.page_record.specs.declared.Page.{Page}
 use Rattle.page_record.proofs.fresh.Reads as fresh-contract
 use Rattle.page_record.proofs.head_of.Reads as head-of-contract
 use Rattle.page_record.proofs.page_of.Reads as page-of-contract
@@ -36,6 +33,8 @@ use Rattle.page_record.proofs.broken_rule.Reads as broken-rule-contract
 use Rattle.page_record.proofs.is_sound.Reads as is-sound-contract
 use Rattle.page_record.proofs.sound.Reads as sound-contract
 use Rattle.page_record.proofs.census.Reads as census-contract
+use Rattle.steps.specs.declared.Answer.{Answer}
+use Rattle.steps.specs.declared.Request.{Request}
 use Rattle.steps.proofs.is_step.Reads as is-step-contract
 use Rattle.steps.proofs.takes_bucket.Reads as takes-bucket-contract
 use Rattle.steps.proofs.takes_clean.Reads as takes-clean-contract
@@ -47,6 +46,7 @@ use Rattle.steps.proofs.refusal_number.Reads as refusal-number-contract
 use Rattle.steps.proofs.answer_number.Reads as answer-number-contract
 use Rattle.steps.proofs.carries.Reads as carries-contract
 use Rattle.steps.proofs.answer_value.Reads as answer-value-contract
+use Rattle.lock.specs.Step.{stepOf}
 use Rattle.lock.proofs.step.Reads as step-contract
 use Rattle.lock.proofs.lend.Reads as lend-contract
 use Rattle.wire.proofs.read.Reads as read-contract

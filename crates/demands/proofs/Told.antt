@@ -6,48 +6,46 @@ use mathlib.Core.Path.{_≡_, refl, sym, _∙_}
 use mathlib.Core.Bool.{Bool, true, false, cond}
 use mathlib.Core.List.{List, [], _∷_}
 use native.Mathlib.Omega.{arith}
+use borrow.Author.Tests.{eq-eqb}
 use lib.Dec.{T, eqb, leb, ltb→lt}
 use lib.ListN.{length, replicate}
-use borrow.Author.Tests.{eq-eqb}
-use Rattle.kinds.specs.Limits.{buckets, capacity}
 use Rattle.kinds.specs.declared.Bucket.{Bucket}
 use Rattle.kinds.specs.declared.Storage.{Storage}
 use Rattle.kinds.specs.declared.MaybeBucket.{MaybeBucket}
 use Rattle.kinds.specs.declared.Reader.{Reader}
+use Rattle.kinds.specs.declared.Phase.{Phase}
+use Rattle.kinds.specs.Limits.{buckets, capacity}
+use Rattle.readers.specs.declared.Found.{Found}
+use Rattle.readers.specs.Listed.{live, findIn}
+use Rattle.readers.proofs.Tests.{to-true}
+use Rattle.readers.proofs.First.{found}
 use Rattle.page_record.specs.declared.Head.{Head}
+use Rattle.page_record.specs.declared.Page.{Page}
 use Rattle.page_record.specs.Holders.{hasBucket, validBucket, bucketOf, loadingBucket, valueOf, excValue}
-use Rattle.page_record.specs.Pages.{numberAt}
+use Rattle.page_record.specs.Pages.{numberAt, headOf, freshPage}
 use Rattle.page_record.specs.References.{refAt}
 use Rattle.page_record.specs.Facts.{Sound}
-use Rattle.lock.proofs.Counts.{number-raise, number-lower}
-use Rattle.lock.proofs.MoveFacts.{granted}
-use Rattle.steps.specs.Setters.{raise, lower}
+use Rattle.page_record.specs.Rules.{soundOf}
+use Rattle.page_record.proofs.Tested.{facts}
+use Rattle.page_record.proofs.Known.{known, listed-counted}
 use Rattle.steps.specs.declared.Request.{Request}
 use Rattle.steps.specs.declared.Answer.{Answer}
 use Rattle.steps.specs.declared.Verdict.{Verdict}
+use Rattle.steps.specs.declared.Refusal.{Refusal}
+use Rattle.steps.specs.Setters.{raise, lower}
 use Rattle.steps.specs.Premises.{Step, Passes, verdict, settled}
 use Rattle.steps.specs.Requests.{formal, judged}
 use Rattle.steps.specs.Decide.{stepAt, soughtOf, decideOf}
-use Rattle.readers.specs.Listed.{live}
-use Rattle.page_record.specs.declared.Page.{Page}
-use Rattle.page_record.specs.Pages.{headOf, freshPage}
-use Rattle.page_record.specs.Rules.{soundOf}
-use Rattle.page_record.proofs.Tested.{facts}
-use Rattle.readers.proofs.Tests.{to-true}
-use Rattle.lock.specs.Step.{lookFor, stepped, stepOf}
-use Rattle.lock.proofs.Pick.{Below, _&_, pick}
+use Rattle.steps.specs.Answers.{refusalNumber}
+use Rattle.steps.specs.Steps.{isFound, reader}
 use Rattle.steps.proofs.Verdicts.{passed}
+use Rattle.lock.specs.Step.{lookFor, stepped, stepOf}
+use Rattle.lock.proofs.Counts.{number-raise, number-lower}
+use Rattle.lock.proofs.MoveFacts.{granted}
+use Rattle.lock.proofs.Pick.{Below, _&_, pick}
 use Rattle.lock.proofs.Passes.{judged-bucket}
 use Rattle.lock.proofs.Least.{step-below}
 use Rattle.lock.proofs.Keeps.{step-keeps}
-use Rattle.steps.specs.declared.Refusal.{Refusal}
-use Rattle.steps.specs.Answers.{refusalNumber}
-use Rattle.steps.specs.Steps.{isFound, reader}
-use Rattle.readers.specs.declared.Found.{Found}
-use Rattle.readers.specs.Listed.{findIn}
-use Rattle.readers.proofs.First.{found}
-use Rattle.kinds.specs.declared.Phase.{Phase}
-use Rattle.page_record.proofs.Known.{known, listed-counted}
 use Rattle.demands.specs.History.{Event, event, after, history, arrivals, departures, lastPut, lastWithdrew, lastCounted, HandedOut}
 
 -- ---- what is told
@@ -56,6 +54,15 @@ pub record Told (fresh : ℕ) (h : Head) (past : List Event) : Type 0 where
   pub stored : h .storage ≡ cond (lastWithdrew past) Storage.Out (Storage.In (lastPut fresh past))
   pub counted : T (hasBucket (loadingBucket (h .«loading_state»))) → lastCounted past ≡ loadingBucket (h .«loading_state»)
   pub handed : HandedOut fresh past
+
+-- what is stored was last put in
+pub put-in : (fresh : ℕ) (s : Storage) (past : List Event) → s ≡ cond (lastWithdrew past) Storage.Out (Storage.In (lastPut fresh past))
+    → (v : ℕ) → s ≡ Storage.In v → v ≡ lastPut fresh past
+put-in fresh s past told v e = go (lastWithdrew past) (sym e ∙ told)
+  where
+    go : (t : Bool) → Storage.In v ≡ cond t Storage.Out (Storage.In (lastPut fresh past)) → v ≡ lastPut fresh past
+    go true f = absurd (let z : _≡_ {A = ℕ} 0 1 = cc in omega arith)
+    go false f = cc
 
 -- ---- each step
 module _ (fresh : ℕ) (h : Head) (l : List Reader) (b : Bucket) (clean value : ℕ) (full : Bool) (past : List Event) (s : Sound h l) (inside : b .0 < buckets) (told : Told fresh h past) where
@@ -88,12 +95,8 @@ module _ (fresh : ℕ) (h : Head) (l : List Reader) (b : Bucket) (clean value : 
       go Found.Nowhere e t = absurd t
 
   -- a withdrawal hands out what was last put in
-  put-in : (v : ℕ) → h .storage ≡ Storage.In v → v ≡ lastPut fresh past
-  put-in v e = go (lastWithdrew past) (sym e ∙ told .stored)
-    where
-      go : (t : Bool) → Storage.In v ≡ cond t Storage.Out (Storage.In (lastPut fresh past)) → v ≡ lastPut fresh past
-      go true f = absurd (let z : _≡_ {A = ℕ} 0 1 = cc in omega arith)
-      go false f = cc
+  was-put : (v : ℕ) → h .storage ≡ Storage.In v → v ≡ lastPut fresh past
+  was-put = put-in fresh (h .storage) past (told .stored)
 
   -- no count changes, nothing is handed out
   even : (x : ℕ) → numberAt (h .«ref_counts») x + (0 + 0 + departures x past) ≡ 0 + arrivals x past
@@ -124,7 +127,7 @@ module _ (fresh : ℕ) (h : Head) (l : List Reader) (b : Bucket) (clean value : 
   told7 t = record { balance = even; stored = told .stored; counted = told .counted; handed = none-out }
 
   told8 : Entry 8
-  told8 t = record { balance = even; stored = refl; counted = told .counted; handed = (λ w. put-in (excValue (h .«exc_state»)) (known s .pending-in (t .0)), told .handed) }
+  told8 t = record { balance = even; stored = refl; counted = told .counted; handed = (λ w. was-put (excValue (h .«exc_state»)) (known s .pending-in (t .0)), told .handed) }
 
   told9 : Entry 9
   told9 t = record { balance = even; stored = refl; counted = told .counted; handed = none-out }
@@ -133,10 +136,10 @@ module _ (fresh : ℕ) (h : Head) (l : List Reader) (b : Bucket) (clean value : 
   told10 t = record { balance = even; stored = refl; counted = told .counted; handed = none-out }
 
   told11 : Entry 11
-  told11 t = record { balance = even; stored = refl; counted = λ w. absurd w; handed = (λ w. put-in (valueOf (h .storage)) (known s .unmapped-in (t .0)), told .handed) }
+  told11 t = record { balance = even; stored = refl; counted = λ w. absurd w; handed = (λ w. was-put (valueOf (h .storage)) (known s .unmapped-in (t .0)), told .handed) }
 
   told12 : Entry 12
-  told12 t = record { balance = even; stored = refl; counted = λ w. absurd w; handed = (λ w. put-in (valueOf (h .storage)) (known s .unmapped-in (t .0)), told .handed) }
+  told12 t = record { balance = even; stored = refl; counted = λ w. absurd w; handed = (λ w. was-put (valueOf (h .storage)) (known s .unmapped-in (t .0)), told .handed) }
 
   told13 : Entry 13
   told13 t = record { balance = λ x. omega (arith, raised-balance x); stored = told .stored; counted = λ w. refl; handed = none-out }

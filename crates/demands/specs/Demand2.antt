@@ -7,8 +7,8 @@ use mathlib.Core.Logic.{_↔_}
 use mathlib.Core.List.{List}
 use lib.Dec.{T}
 use lib.ListN.{length, take}
-use Rattle.kinds.specs.Limits.{recordSize}
 use Rattle.kinds.specs.declared.Storage.{Storage}
+use Rattle.kinds.specs.Limits.{recordSize}
 use Rattle.readers.specs.Listed.{live, listed}
 use Rattle.page_record.specs.declared.Page.{Page}
 use Rattle.page_record.specs.Rules.{soundOf}

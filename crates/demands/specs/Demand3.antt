@@ -6,11 +6,11 @@ use mathlib.Core.Bool.{not, _||_}
 use mathlib.Core.List.{List}
 use lib.Dec.{T}
 use lib.ListN.{length, getD}
-use Rattle.kinds.specs.Limits.{buckets}
 use Rattle.kinds.specs.declared.Phase.{Phase}
 use Rattle.kinds.specs.declared.Reader.{Reader}
 use Rattle.kinds.specs.declared.Storage.{Storage}
 use Rattle.kinds.specs.declared.WritebackState.{WritebackState}
+use Rattle.kinds.specs.Limits.{buckets}
 use Rattle.readers.specs.Listed.{live, blankReader}
 use Rattle.page_record.specs.declared.Page.{Page}
 use Rattle.page_record.specs.Holders.{isStored, isClaim, isAwait, isPending, isEditing, excValue}

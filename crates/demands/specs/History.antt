@@ -5,17 +5,20 @@ use mathlib.Core.Path.{_≡_}
 use mathlib.Core.Bool.{Bool, true, false, cond, _&&_}
 use mathlib.Core.List.{List, [], _∷_, _++_}
 use lib.Dec.{T, eqb}
+use lib.ListN.{length}
 use Rattle.kinds.specs.declared.MaybeBucket.{MaybeBucket}
 use Rattle.page_record.specs.declared.Page.{Page}
 use Rattle.page_record.specs.References.{refAt}
 use Rattle.steps.specs.declared.Request.{Request}
 use Rattle.steps.specs.declared.Answer.{Answer}
+use Rattle.steps.specs.declared.Verdict.{Verdict}
 use Rattle.steps.specs.Answers.{answerNumber, answerValue, withdraws}
 use Rattle.lock.specs.Words.{among, raising, puttingIn, handingOut}
 use Rattle.lock.specs.Step.{stepOf}
 use Rattle.wire.specs.Answers.{lineOf}
 use Rattle.wire.specs.Requests.{fieldsOf}
 use Rattle.replay.specs.Turns.{turnOf}
+use Rattle.replay.specs.Run.{requestsOf, runVerdict, ranOf}
 
 -- a request and its answer
 pub record Event : Type 0 where
@@ -44,6 +47,27 @@ lineEvent p bytes = record { request = fieldsOf bytes; answer = turnOf p bytes .
 abbrev pub runHistory : Page → List (List ℕ) → List Event → List Event
 runHistory p [] past = past
 runHistory p (r ∷ rs) past = runHistory (turnOf p r .page) rs (lineEvent p r ∷ past)
+
+-- run after run: what each is given, requests and a buffer for its answers
+pub record Given : Type 0 where
+  pub requests : List ℕ
+  pub answers : List ℕ
+
+-- the page that they leave, whether they were accepted or not
+abbrev pub afterRuns : Page → List Given → Page
+afterRuns p [] = p
+afterRuns p (g ∷ gs) = afterRuns (ranOf p (g .requests) (g .answers) .page) gs
+
+-- a run adds its lines; one that is refused as a whole has none
+abbrev pub added : Page → List ℕ → List Event → Verdict → List Event
+added p requests past Verdict.Passed = runHistory p (requestsOf requests) past
+added p requests past (Verdict.Failed why) = past
+
+abbrev pub runsHistory : Page → List Given → List Event → List Event
+runsHistory p [] past = past
+runsHistory p (g ∷ gs) past =
+    runsHistory (ranOf p (g .requests) (g .answers) .page) gs
+    (added p (g .requests) past (runVerdict p (length (g .requests)) (length (g .answers))))
 
 -- the answer lines that a history stands for, the oldest first
 abbrev pub answerLines : List Event → List ℕ
