@@ -1,4 +1,5 @@
-// A page in the course of its requests. Each is answered as one line of a run.
+// A page in the course of its requests. Each is answered as one line of a run, and, where its bytes are a request, in place
+// too: the two must agree.
 ghost use mathlib.Core.Path.{_≡_};
 ghost use lib.Dec.{eqb};
 ghost use lib.ListN.{getD, take, drop};
@@ -8,6 +9,8 @@ use crate::asks::Ask;
 use crate::asks::bytes_of;
 use kinds::RECORD;
 use page_record::Page;
+use steps::Request;
+use wire::Reading;
 
 // The page, the last answer line, how many requests were answered and how many of them with 0.
 pub struct Course {
@@ -17,9 +20,21 @@ pub struct Course {
     pub accepted: u64,
 }
 
+// A page and an answer line.
+struct Left {
+    page: Page,
+    line: [u8; RECORD],
+}
+
 // An answer line, before a request is answered.
 fn no_line() -> [u8; RECORD] {
     [0; RECORD]
+}
+
+// A line that no answer has.
+fn blotted(page: Page) -> Left {
+    let line = [255; RECORD];
+    Left { page, line }
 }
 
 // A page at the start.
@@ -69,15 +84,68 @@ pub fn plus(a: u64, b: u64) -> u64
     a % 4294967296 + b % 4294967296
 }
 
-// The request's line of a run on the page.
+// Whether two answer lines, or two requests, are the same.
+fn same_record(a: &[u8; RECORD], b: &[u8; RECORD]) -> bool {
+    for i in 0..RECORD {
+        if a[i] != b[i] {
+            return false;
+        }
+    }
+    true
+}
+
+// What a run of one request leaves: its line and the page.
+fn by_run(page: Page, request: [u8; RECORD]) -> Left {
+    let mut line = [0u8; RECORD];
+    let ran = replay::run(page, &request, &mut line);
+    let left = ran.page;
+    Left { page: left, line }
+}
+
+// The same by the request that is read: it is written back, and answered on a page that is lent.
+fn in_place(page: Page, asked: Request) -> Left {
+    let mut line = [0u8; RECORD];
+    let out = lock::lend(page, asked);
+    let said = out.answer;
+    let left = out.page;
+    wire::write_answer(said, &mut line);
+    Left { page: left, line }
+}
+
+fn written_back(asked: Request) -> [u8; RECORD] {
+    let mut bytes = [0u8; RECORD];
+    wire::write(asked, &mut bytes);
+    bytes
+}
+
+// The request's line of a run on the page. Where the bytes are a request, the page goes on that was changed in place, and the
+// line is blotted out unless the request's own bytes and the line come out the same both ways.
+fn turned(page: Page, request: [u8; RECORD]) -> Left {
+    let ran = by_run(page, request);
+    match wire::read(&request) {
+        Reading::Refused(_) => ran,
+        Reading::Request(asked) => {
+            let other = in_place(page, asked);
+            let again = written_back(asked);
+            let first = ran.line;
+            let second = other.line;
+            if same_record(&request, &again) & same_record(&first, &second) {
+                other
+            } else {
+                blotted(page)
+            }
+        }
+    }
+}
+
+// A request's answer.
 pub fn answer(course: Course, ask: Ask) -> Course {
     let page = course.page;
     let asked = course.asked;
     let accepted = course.accepted;
-    let request = bytes_of(ask);
-    let mut line = [0u8; RECORD];
-    let ran = replay::run(page, &request, &mut line);
-    let left = ran.page;
+    let next = turned(page, bytes_of(ask));
+    let left = next.page;
+    let line = next.line;
     let granted = number_of(&line) == 0;
     Course {
         page: left,
