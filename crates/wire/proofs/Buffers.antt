@@ -1,6 +1,6 @@
 -- What a lent buffer holds after a record is written: the record first, what stood past it as it was, and all of it as it was
 -- where the writing is refused. Assumes nothing.
-use Prim.Native.Nat.{ℕ, _^_, _<_, _≤_}
+use Prim.Native.Nat.{ℕ, _<_, _≤_}
 use mathlib.Core.Path.{_≡_, refl, ap, _∙_}
 use mathlib.Core.List.{List, [], _∷_, _++_, append-nil}
 use native.Mathlib.Omega.{arith}
@@ -14,6 +14,7 @@ use Rattle.steps.specs.declared.Answer.{Answer}
 use Rattle.steps.specs.declared.Verdict.{Verdict}
 use Rattle.steps.specs.Premises.{verdict}
 use Rattle.steps.specs.Requests.{formal, judged}
+use Rattle.wire.specs.Bytes.{valueLimit}
 use Rattle.wire.specs.Buffers.{room, answerFor, leaves, putAnswer, putTo}
 use Rattle.wire.specs.Requests.{bytesOf, readOf, writable, wroteAnswer, wroteTo}
 use Rattle.wire.specs.declared.Reading.{Reading}
@@ -70,7 +71,7 @@ module _ (q : Request) (l : List ℕ) where
   write-first e = first (bytesOf q) l (length-bytes q) (verdict (writable q l)) e
 
   -- and reads back as the request
-  pub write-back : wroteAnswer q l ≡ Answer.Accepted → q .value < 256 ^ 8 → readOf (take recordSize (wroteTo q l)) ≡ Reading.Request q
+  pub write-back : wroteAnswer q l ≡ Answer.Accepted → q .value < valueLimit → readOf (take recordSize (wroteTo q l)) ≡ Reading.Request q
   unfolding wroteAnswer judged
   write-back e h =
       let fits : judged q ≡ Verdict.Passed = holds-before (formal q) (room l ∷ []) (answer-passed (verdict (writable q l)) e) in

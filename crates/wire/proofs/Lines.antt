@@ -1,5 +1,5 @@
 -- What an answer's sixteen bytes tell: all of it. Assumes nothing.
-use Prim.Native.Nat.{ℕ, _^_, _<_}
+use Prim.Native.Nat.{ℕ, _<_}
 use mathlib.Core.Path.{_≡_, refl, ap, _∙_, sym}
 use mathlib.Core.Bool.{Bool, true, false, cond, true≢false}
 use mathlib.Core.List.{List, [], _∷_}
@@ -10,7 +10,7 @@ use Rattle.steps.specs.declared.Refusal.{Refusal}
 use Rattle.steps.specs.declared.Answer.{Answer}
 use Rattle.steps.specs.Answers.{refusalNumber, answerNumber, withdraws, answerValue}
 use Rattle.wire.specs.Answers.{lineOf}
-use Rattle.wire.specs.Bytes.{number, part, recordOf}
+use Rattle.wire.specs.Bytes.{valueAt, valueLimit, number, part, recordOf}
 use Rattle.wire.proofs.Bytes.{number-lowBytes}
 use Rattle.wire.proofs.Records.{length-record}
 
@@ -25,18 +25,18 @@ marks true false e = absurd (omega arith)
 marks false true e = absurd (omega arith)
 marks false false e = refl
 
-value-line : (a : Answer) → answerValue a < 256 ^ 8 → number (part 8 16 (lineOf a)) ≡ answerValue a
+value-line : (a : Answer) → answerValue a < valueLimit → number (part valueAt recordSize (lineOf a)) ≡ answerValue a
 unfolding lineOf recordOf
 value-line a h = number-lowBytes 8 (answerValue a) h
 
 -- two answers with the same bytes have the same number, the same mark and the same value
-pub line-tells : (a b : Answer) → answerValue a < 256 ^ 8 → answerValue b < 256 ^ 8 → lineOf a ≡ lineOf b
+pub line-tells : (a b : Answer) → answerValue a < valueLimit → answerValue b < valueLimit → lineOf a ≡ lineOf b
     → (answerNumber a ≡ answerNumber b) × (withdraws a ≡ withdraws b) × (answerValue a ≡ answerValue b)
 unfolding lineOf recordOf
 line-tells a b h k e = (
   ap (λ (l : List ℕ). getD l 0 0) e,
   marks (withdraws a) (withdraws b) (ap (λ (l : List ℕ). getD l 1 0) e),
-  sym (value-line a h) ∙ ap (λ (l : List ℕ). number (part 8 16 l)) e ∙ value-line b k,
+  sym (value-line a h) ∙ ap (λ (l : List ℕ). number (part valueAt recordSize l)) e ∙ value-line b k,
 )
 
 -- the reasons by their numbers, from 0
@@ -91,5 +91,5 @@ answer-is (Answer.Refused x) (Answer.Withdrew y) n m v = absurd (true≢false (s
 answer-is (Answer.Refused x) (Answer.Refused y) n m v = ap Answer.Refused (sym (named x .0) ∙ ap reasonAt n ∙ named y .0)
 
 -- two answers with the same bytes are the same
-pub line-injective : (a b : Answer) → answerValue a < 256 ^ 8 → answerValue b < 256 ^ 8 → lineOf a ≡ lineOf b → a ≡ b
+pub line-injective : (a b : Answer) → answerValue a < valueLimit → answerValue b < valueLimit → lineOf a ≡ lineOf b → a ≡ b
 line-injective a b h k e = let t = line-tells a b h k e in answer-is a b (t .0) (t .1) (t .2)

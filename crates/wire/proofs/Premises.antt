@@ -20,7 +20,7 @@ use Rattle.steps.specs.Premises.{verdict}
 use Rattle.steps.specs.Requests.{isStep, fieldsFit, bucketFits, formal, judged}
 use Rattle.wire.specs.Answers.{lineOf}
 use Rattle.wire.specs.Buffers.{room, answerFor, leaves, putAnswer, putTo}
-use Rattle.wire.specs.Bytes.{blank, part, recordOf}
+use Rattle.wire.specs.Bytes.{zerosAt, valueAt, blank, part, recordOf}
 use Rattle.wire.specs.Requests.{bytesOf, fieldsOf, readingOf, readOf, orBadField, wroteAnswer, wroteTo}
 use Rattle.wire.specs.declared.Reading.{Reading}
 
@@ -81,20 +81,20 @@ module _ (l : List ℕ) where
   abbrev reads : Bool → Bool → Reading
   reads long zeros = readingOf q (cond long (beside (isStep (q .step)) (fieldsFit q) zeros (bucketFits q)) (Verdict.Failed Refusal.NotWhole))
 
-  found : (long zeros : Bool) → eqb (length l) recordSize ≡ long → blank (part 3 8 l) ≡ zeros → readOf l ≡ reads long zeros
+  found : (long zeros : Bool) → eqb (length l) recordSize ≡ long → blank (part zerosAt valueAt l) ≡ zeros → readOf l ≡ reads long zeros
   unfolding readOf
-  found long zeros h z = ap (λ (t : Bool). reads t (blank (part 3 8 l))) h ∙ ap (reads long) z
+  found long zeros h z = ap (λ (t : Bool). reads t (blank (part zerosAt valueAt l))) h ∙ ap (reads long) z
 
   pub read-ragged : (length l ≡ recordSize → ⊥) → Reading.Refused Refusal.NotWhole ≡ readOf l
-  read-ragged h = sym (found false (blank (part 3 8 l)) (ne-eqb (length l) recordSize h) refl)
+  read-ragged h = sym (found false (blank (part zerosAt valueAt l)) (ne-eqb (length l) recordSize h) refl)
 
-  pub read-fields : length l ≡ recordSize → blank (part 3 8 l) ≡ true → readingOf q (judged q) ≡ readOf l
+  pub read-fields : length l ≡ recordSize → blank (part zerosAt valueAt l) ≡ true → readingOf q (judged q) ≡ readOf l
   unfolding judged
   read-fields h z =
       ap (λ (t : Bool). readingOf q (alone (isStep (q .step)) t (bucketFits q))) (sym (and-true (fieldsFit q)))
       ∙ sym (found true true (eq-eqb (length l) recordSize h) z)
 
-  pub read-marked : length l ≡ recordSize → blank (part 3 8 l) ≡ false → Reading.Refused (orBadField (judged q)) ≡ readOf l
+  pub read-marked : length l ≡ recordSize → blank (part zerosAt valueAt l) ≡ false → Reading.Refused (orBadField (judged q)) ≡ readOf l
   unfolding judged
   read-marked h z =
       ap (readingOf q) (sym (marked (isStep (q .step)) (fieldsFit q) (bucketFits q)))
