@@ -70,36 +70,36 @@ pub record Going (qs old₀ : List ℕ) (page₀ : Page) (n₀ : ℕ) (old : Lis
 module _ {qs old₀ : List ℕ} {page₀ : Page} {n₀ : ℕ} {old : List ℕ} {page : Page} {n at : ℕ} (g : Going qs old₀ page₀ n₀ old page n at) where
   -- a turn: the request's outcome, by the bytes that are read, and its line, put where its answer goes
   pub going : (o : Outcome) (ys : List ℕ) → 0 < n
-      → o ≡ turnOf page (take (at + 16 - at) (drop at qs))
-      → ys ≡ putTo (lineOf (o .answer)) (midOf at (at + 16 - at) old)
-      → Going qs old₀ page₀ n₀ (putMid at (at + 16 - at) old ys) (o .page) (n - 1) (at + 16)
+      → o ≡ turnOf page (take (at + recordSize - at) (drop at qs))
+      → ys ≡ putTo (lineOf (o .answer)) (midOf at (at + recordSize - at) old)
+      → Going qs old₀ page₀ n₀ (putMid at (at + recordSize - at) old ys) (o .page) (n - 1) (at + recordSize)
   going o ys more turned written =
-      let width : at + 16 - at ≡ 16 = omega arith in
+      let width : at + recordSize - at ≡ recordSize = omega arith in
       let one : n ≡ suc (n - 1) = omega arith in
-      let o-is : o ≡ turnOf page (take 16 (drop at qs)) = turned ∙ ap (λ (w : ℕ). turnOf page (take w (drop at qs))) width in
-      let mid : length (midOf at (at + 16 - at) old) ≡ 16 = mid-len at (at + 16) old (omega arith) ∙ width in
-      let ys-is : ys ≡ lineOf (o .answer) = written ∙ put-whole (lineOf (o .answer)) (midOf at (at + 16 - at) old) mid in
-      let wide : length ys ≡ 16 = ap length ys-is ∙ length-line (o .answer) in
-      let kept : length (putMid at (at + 16 - at) old ys) ≡ length old = same-len-mid at (at + 16 - at) old ys (wide ∙ sym mid) in
-      let whole : length qs ≡ at + 16 + 16 * (n - 1) = omega arith in
-      let rest : List ℕ = linesOf (o .page) (cut 16 (n - 1) (drop (at + 16) qs)) in
-      let next : linesOf page (cut 16 n (drop at qs)) ≡ ys ++ rest =
-      ap (λ (m : ℕ). linesOf page (cut 16 m (drop at qs))) one
-      ∙ lines-turn 16 qs at (n - 1) page
-      ∙ ap (λ (p : Outcome). lineOf (p .answer) ++ linesOf (p .page) (cut 16 (n - 1) (drop (at + 16) qs))) (sym o-is)
+      let o-is : o ≡ turnOf page (take recordSize (drop at qs)) = turned ∙ ap (λ (w : ℕ). turnOf page (take w (drop at qs))) width in
+      let mid : length (midOf at (at + recordSize - at) old) ≡ recordSize = mid-len at (at + recordSize) old (omega arith) ∙ width in
+      let ys-is : ys ≡ lineOf (o .answer) = written ∙ put-whole (lineOf (o .answer)) (midOf at (at + recordSize - at) old) mid in
+      let wide : length ys ≡ recordSize = ap length ys-is ∙ length-line (o .answer) in
+      let kept : length (putMid at (at + recordSize - at) old ys) ≡ length old = same-len-mid at (at + recordSize - at) old ys (wide ∙ sym mid) in
+      let whole : length qs ≡ at + recordSize + recordSize * (n - 1) = omega arith in
+      let rest : List ℕ = linesOf (o .page) (cut recordSize (n - 1) (drop (at + recordSize) qs)) in
+      let next : linesOf page (cut recordSize n (drop at qs)) ≡ ys ++ rest =
+      ap (λ (m : ℕ). linesOf page (cut recordSize m (drop at qs))) one
+      ∙ lines-turn recordSize qs at (n - 1) page
+      ∙ ap (λ (p : Outcome). lineOf (p .answer) ++ linesOf (p .page) (cut recordSize (n - 1) (drop (at + recordSize) qs))) (sym o-is)
       ∙ ap (λ (z : List ℕ). z ++ rest) (sym ys-is) in
       let put : take at old ++ (ys ++ rest) ++ drop (length qs) old
-      ≡ take (at + 16) (putMid at (at + 16 - at) old ys) ++ rest ++ drop (length qs) (putMid at (at + 16 - at) old ys) =
-      rw whole (put-turn old ys rest at 16 (16 * (n - 1)) (omega arith) wide) in
+      ≡ take (at + recordSize) (putMid at (at + recordSize - at) old ys) ++ rest ++ drop (length qs) (putMid at (at + recordSize - at) old ys) =
+      rw whole (put-turn old ys rest at recordSize (recordSize * (n - 1)) (omega arith) wide) in
       record {
         ahead = omega arith;
         room = omega arith;
         long = omega arith;
         ends =
             g .ends
-            ∙ ap (λ (m : ℕ). pageAfter page (cut 16 m (drop at qs))) one
-            ∙ page-turn 16 qs at (n - 1) page
-            ∙ ap (λ (p : Outcome). pageAfter (p .page) (cut 16 (n - 1) (drop (at + 16) qs))) (sym o-is);
+            ∙ ap (λ (m : ℕ). pageAfter page (cut recordSize m (drop at qs))) one
+            ∙ page-turn recordSize qs at (n - 1) page
+            ∙ ap (λ (p : Outcome). pageAfter (p .page) (cut recordSize (n - 1) (drop (at + recordSize) qs))) (sym o-is);
         says = g .says ∙ ap (λ (z : List ℕ). take at old ++ z ++ drop (length qs) old) next ∙ put;
       }
 
