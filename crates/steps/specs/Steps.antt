@@ -48,7 +48,7 @@ placeOf Found.Nowhere = 0
 abbrev pub reader : Phase → Bucket → Reader
 reader phase bucket = record { phase = phase; bucket = bucket }
 
--- the count at a bucket is below 31
+-- the count at a bucket is below the ceiling
 abbrev pub under : Head → ℕ → Bool
 under h b = ltb (numberAt (h .«ref_counts») b) ceiling
 
