@@ -63,7 +63,8 @@ read-spec =
     (λ c κs. tt)
     (λ c.
     let p = c .before .before .before .before in
-    ap Reading.Refused (c .or-bad-field .ensures ∙ ap orBadField (judged-is p)) ∙ read-marked (read p) (omega arith) (marked (c .before)))
+    ap Reading.Refused (c .or-bad-field .ensures ∙ ap orBadField (judged-is p))
+    ∙ read-marked (read p) (omega arith) (marked (c .before)))
     (λ c. search needs)
     (λ c. search needs)
     (λ c.
