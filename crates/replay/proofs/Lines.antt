@@ -98,9 +98,6 @@ module _ (page : Page) (requests answers : List ℕ) (accepted : ranOf page requ
       ∙ line-of recordSize length-line page qs k in-range
       ∙ ap (λ (q : List ℕ). lineOf (turnOf (pageAt k page requests) q .answer)) (request-at requests k h)
 
-  pub length-at : (k : ℕ) → k < length requests / recordSize → length (recordAt k (answersOf page requests answers)) ≡ recordSize
-  length-at k h = ap length (line-at k h) ∙ length-line (turnOf (pageAt k page requests) (recordAt k requests) .answer)
-
   -- the bytes past the last line stay
   pub past-lines : drop (length requests) (answersOf page requests answers) ≡ drop (length requests) answers
   past-lines =
