@@ -20,7 +20,10 @@ abbrev excTag : ExcState → ℕ
 excTag e = tagOf E.the-type e
 
 exc-tags : (e : ExcState)
-    → (isClaim e ≡ eqb (excTag e) 1) × (isAwait e ≡ eqb (excTag e) 2) × (isPending e ≡ eqb (excTag e) 3) × (isEditing e ≡ eqb (excTag e) 4)
+    → (isClaim e ≡ eqb (excTag e) 1)
+    × (isAwait e ≡ eqb (excTag e) 2)
+    × (isPending e ≡ eqb (excTag e) 3)
+    × (isEditing e ≡ eqb (excTag e) 4)
 exc-tags ExcState.None = (refl, refl, refl, refl)
 exc-tags (ExcState.Claim bucket value) = (refl, refl, refl, refl)
 exc-tags (ExcState.PendingAwaitWriteback bucket value) = (refl, refl, refl, refl)

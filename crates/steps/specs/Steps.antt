@@ -190,7 +190,8 @@ abbrev pub depositLoadingToDone : Head → Request → Step
 depositLoadingToDone h q =
     let l = h .«loading_state» in
     accepts ((Refusal.NoHolder, isLoaded l) ∷ (Refusal.WrongBucket, hasBucket (loadingBucket l)) ∷ [])
-    (lowered (bucketOf (loadingBucket l) .0) (withFlag Flag.Available (withStorage (Storage.In (q .value)) (withLoading LoadingState.None h))))
+    (lowered (bucketOf (loadingBucket l) .0)
+    (withFlag Flag.Available (withStorage (Storage.In (q .value)) (withLoading LoadingState.None h))))
     Edit.Keep
 
 -- 18, line 356: an editor that has no bucket gets one

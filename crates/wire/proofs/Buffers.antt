@@ -34,7 +34,10 @@ module _ (bytes l : List ℕ) where
 
   -- a buffer of one record becomes the record
   pub put-whole : length l ≡ recordSize → putTo bytes l ≡ bytes
-  put-whole h = put-fits (omega arith) .1 ∙ ap (λ (r : List ℕ). bytes ++ r) (drop-of-length-le l {i = recordSize} (omega arith)) ∙ append-nil bytes
+  put-whole h =
+      put-fits (omega arith) .1
+      ∙ ap (λ (r : List ℕ). bytes ++ r) (drop-of-length-le l {i = recordSize} (omega arith))
+      ∙ append-nil bytes
 
 -- ---- a request into a buffer
 pub length-bytes : (q : Request) → length (bytesOf q) ≡ recordSize
@@ -71,7 +74,8 @@ module _ (q : Request) (l : List ℕ) where
   write-first e = first (bytesOf q) l (length-bytes q) (verdict (writable q l)) e
 
   -- and reads back as the request
-  pub write-back : wroteAnswer q l ≡ Answer.Accepted → q .value < valueLimit → readOf (take recordSize (wroteTo q l)) ≡ Reading.Request q
+  pub write-back : wroteAnswer q l ≡ Answer.Accepted → q .value < valueLimit
+      → readOf (take recordSize (wroteTo q l)) ≡ Reading.Request q
   unfolding wroteAnswer judged
   write-back e h =
       let fits : judged q ≡ Verdict.Passed = holds-before (formal q) (room l ∷ []) (answer-passed (verdict (writable q l)) e) in

@@ -42,7 +42,8 @@ line-tells a b h k e = (
 )
 
 -- number, mark and value are all there is to an answer
-pub answer-is : (a b : Answer) → answerNumber a ≡ answerNumber b → withdraws a ≡ withdraws b → answerValue a ≡ answerValue b → a ≡ b
+pub answer-is : (a b : Answer)
+    → answerNumber a ≡ answerNumber b → withdraws a ≡ withdraws b → answerValue a ≡ answerValue b → a ≡ b
 answer-is Answer.Accepted Answer.Accepted n m v = refl
 answer-is Answer.Accepted (Answer.Withdrew y) n m v = absurd (true≢false (sym m))
 answer-is Answer.Accepted (Answer.Refused y) n m v = absurd (omega (arith, refusal-above y))

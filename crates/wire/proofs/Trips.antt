@@ -76,7 +76,8 @@ module _ (l : List ℕ) (bytes : Bytes l) (whole : length l ≡ recordSize) wher
   middle : blank (part zerosAt valueAt l) ≡ true → drop zerosAt l ≡ (0 ∷ 0 ∷ 0 ∷ 0 ∷ 0 ∷ []) ++ drop valueAt l
   middle z =
       let five = mid-len zerosAt valueAt l (omega arith) in
-      let zeros : part zerosAt valueAt l ≡ 0 ∷ 0 ∷ 0 ∷ 0 ∷ 0 ∷ [] = zeros-are (part zerosAt valueAt l) z ∙ ap (λ (n : ℕ). replicate n 0) five in
+      let zeros : part zerosAt valueAt l ≡ 0 ∷ 0 ∷ 0 ∷ 0 ∷ 0 ∷ [] =
+      zeros-are (part zerosAt valueAt l) z ∙ ap (λ (n : ℕ). replicate n 0) five in
       sym (take-append-drop (valueAt - zerosAt) (drop zerosAt l))
       ∙ ap (λ (r : List ℕ). part zerosAt valueAt l ++ r) (drop-drop (valueAt - zerosAt) zerosAt l)
       ∙ ap (λ (r : List ℕ). r ++ drop valueAt l) zeros
@@ -100,26 +101,27 @@ length-taken n l = simp length-take (omega arith)
 -- the fields of bytes are as wide as the code holds them
 in-range : (l : List ℕ) → Bytes l → InRange (fieldsOf l)
 in-range l bytes =
-    record {
-      step = bytes 0;
-      bucket = bytes 1;
-      clean = bytes 2;
-      value = number-below 8 (part valueAt recordSize l) (length-taken 8 (drop valueAt l)) (bytes-take 8 (drop valueAt l) (bytes-drop valueAt l bytes));
-    }
+    let last = drop valueAt l in
+    let eight = bytes-take 8 last (bytes-drop valueAt l bytes) in
+    record { step = bytes 0; bucket = bytes 1; clean = bytes 2; value = number-below 8 (take 8 last) (length-taken 8 last) eight }
 
 pub accepts-written : (l : List ℕ) → Bytes l
-    → ((q : Request) × (readOf l ≡ Reading.Request q)) ↔ ((q : Request) × (judged q ≡ Verdict.Passed) × InRange q × (bytesOf q ≡ l))
+    → ((q : Request) × (readOf l ≡ Reading.Request q))
+    ↔ ((q : Request) × (judged q ≡ Verdict.Passed) × InRange q × (bytesOf q ≡ l))
 accepts-written l bytes = (there, back)
   where
-    there : (q : Request) × (readOf l ≡ Reading.Request q) → (q : Request) × (judged q ≡ Verdict.Passed) × InRange q × (bytesOf q ≡ l)
+    there : (q : Request) × (readOf l ≡ Reading.Request q)
+        → (q : Request) × (judged q ≡ Verdict.Passed) × InRange q × (bytesOf q ≡ l)
     there t =
         let a = accepted l (t .0) (t .1) in
         (t .0, a .fits, rw (← a .fields) (in-range l bytes), read-write l (t .0) bytes (t .1))
 
-    back : (q : Request) × (judged q ≡ Verdict.Passed) × InRange q × (bytesOf q ≡ l) → (q : Request) × (readOf l ≡ Reading.Request q)
+    back : (q : Request) × (judged q ≡ Verdict.Passed) × InRange q × (bytesOf q ≡ l)
+        → (q : Request) × (readOf l ≡ Reading.Request q)
     back t = (t .0, rw (← t .3) (write-read (t .0) (t .1) (t .2 .value)))
 
 -- ---- document 01's sample: step 22 at bucket 1 with value 5
+-- nothing rests on it: it shows that the definitions have the places and the order of bytes that the document means
 abbrev sample-request : Request
 sample-request = record { step = 22; bucket = record { 0 = 1 }; clean = 0; value = 5 }
 

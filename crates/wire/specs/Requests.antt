@@ -31,7 +31,12 @@ pub record InRange (q : Request) : Type 0 where
 -- the fields at their places
 abbrev pub fieldsOf : List ℕ → Request
 fieldsOf l =
-    record { step = getD l 0 0; bucket = record { 0 = getD l 1 0 }; clean = getD l 2 0; value = number (part valueAt recordSize l) }
+    record {
+      step = getD l 0 0;
+      bucket = record { 0 = getD l 1 0 };
+      clean = getD l 2 0;
+      value = number (part valueAt recordSize l);
+    }
 
 -- what is asked of the bytes: 12 first, then 2 to 4
 abbrev pub readable : List ℕ → List (Refusal × Bool)

@@ -16,7 +16,8 @@ number-at-spec =
     (λ c. search needs)
     (λ c. search needs)
     (λ c.
-    let args = c .before .before .args in
-    let wide : length (args .h .«ref_counts») ≡ buckets = simp length-map at (c .before .before .good .0 .1 .1 .1 .1 .0 .1 .0 .1) in
+    let b = c .before .before in
+    let args = b .args in
+    let wide : length (args .h .«ref_counts») ≡ buckets = simp length-map at (b .good .0 .1 .1 .1 .1 .0 .1 .0 .1) in
     let past : length (args .h .«ref_counts») ≤ args .bucket .0 = omega arith in
     rw (List·getD-eq-default (args .h .«ref_counts») (record { 0 = 0 }) past)))

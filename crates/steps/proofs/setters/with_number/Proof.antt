@@ -17,7 +17,8 @@ with-number-spec =
     (λ c. search needs)
     (λ c. search needs)
     (λ c.
-    let args = c .before .args in
-    let wide : length (args .h .«ref_counts») ≡ buckets = simp length-map at (c .before .good .0 .1 .1 .1 .1 .0 .1 .0 .1) in
+    let b = c .before in
+    let args = b .args in
+    let wide : length (args .h .«ref_counts») ≡ buckets = simp length-map at (b .good .0 .1 .1 .1 .1 .0 .1 .0 .1) in
     let past : length (args .h .«ref_counts») ≤ args .bucket .0 = omega arith in
     rw (set-out (args .h .«ref_counts») (args .bucket .0) _ past)))
