@@ -58,7 +58,8 @@ module _ (page : Page) (requests : List ℕ) where
   ends-refused (Verdict.Failed other) why e = cc
 
 module _ (page : Page) (requests answers : List ℕ) where
-  pub verdict-accepted : ranOf page requests answers .answer ≡ Answer.Accepted → runVerdict page (length requests) (length answers) ≡ Verdict.Passed
+  pub verdict-accepted : ranOf page requests answers .answer ≡ Answer.Accepted
+      → runVerdict page (length requests) (length answers) ≡ Verdict.Passed
   unfolding ranOf
   verdict-accepted e = ends-accepted page requests (runVerdict page (length requests) (length answers)) e
 
@@ -70,7 +71,8 @@ module _ (page : Page) (requests answers : List ℕ) where
 -- ---- the program's input
 module _ (total space : ℕ) (long : longest < total) where
   -- an input that is longer than a run is refused for what the run is refused for
-  judged-long : (whole : Bool) → eqb (total % recordSize) 0 ≡ whole → Verdict.Failed (tooLong total) ≡ runVerdict (freshPage 0) total space
+  judged-long : (whole : Bool) → eqb (total % recordSize) 0 ≡ whole
+      → Verdict.Failed (tooLong total) ≡ runVerdict (freshPage 0) total space
   unfolding runVerdict
   judged-long true e =
       let many : mostRequests < total / recordSize = omega (arith, eqb-true (total % recordSize) 0 e) in
@@ -85,5 +87,7 @@ input-judged input space = go (ltb longest (length input)) refl
   where
     go : (long : Bool) → ltb longest (length input) ≡ long
         → inputVerdict (take longest input) (length input) space ≡ runVerdict (freshPage 0) (length input) space
-    go true e = rw e (judged-long (length input) space (ltb-true longest (length input) e) (eqb (length input % recordSize) 0) refl)
+    go true e =
+        let long = ltb-true longest (length input) e in
+        rw e (judged-long (length input) space long (eqb (length input % recordSize) 0) refl)
     go false e = rw (e, take-all longest input (ltb-false longest (length input) e))

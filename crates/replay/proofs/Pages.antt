@@ -47,17 +47,20 @@ pub request-at : (l : List ℕ) (k : ℕ) → k < length l / recordSize → getD
 request-at l k h = cut-at recordSize (length l / recordSize) k l h
 
 -- ---- the pages
-pub page-append : (page : Page) (before after : List (List ℕ)) → pageAfter page (before ++ after) ≡ pageAfter (pageAfter page before) after
+pub page-append : (page : Page) (before after : List (List ℕ))
+    → pageAfter page (before ++ after) ≡ pageAfter (pageAfter page before) after
 page-append page [] after = refl
 page-append page (q ∷ before) after = page-append (turnOf page q .page) before after
 
 -- the last request leaves the page
-pub page-last : (page : Page) (before : List (List ℕ)) (q : List ℕ) → pageAfter page (before ++ q ∷ []) ≡ turnOf (pageAfter page before) q .page
+pub page-last : (page : Page) (before : List (List ℕ)) (q : List ℕ)
+    → pageAfter page (before ++ q ∷ []) ≡ turnOf (pageAfter page before) q .page
 page-last page before q = page-append page before (q ∷ [])
 
 module _ (page : Page) (requests : List ℕ) where
   -- each request leaves its page to the next
-  pub page-next : (k : ℕ) → k < length requests / recordSize → pageAt (suc k) page requests ≡ turnOf (pageAt k page requests) (recordAt k requests) .page
+  pub page-next : (k : ℕ) → k < length requests / recordSize
+      → pageAt (suc k) page requests ≡ turnOf (pageAt k page requests) (recordAt k requests) .page
   page-next k h =
       let qs = requestsOf requests in
       let in-range : k < length qs = rw length-requests h in

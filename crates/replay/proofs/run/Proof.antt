@@ -12,7 +12,8 @@ use Rattle.replay.proofs.run.Statement.{statement}
 use Rattle.replay.proofs.run.Tie as tie
 
 abbrev Inv-loop : tie.InvT-loop
-Inv-loop requests answers₀ current₀ left₀ at₀ answers current left at = Going requests answers₀ current₀ left₀ answers current left at
+Inv-loop requests answers₀ current₀ left₀ at₀ answers current left at =
+    Going requests answers₀ current₀ left₀ answers current left at
 
 abbrev μ-loop : tie.MeasureT-loop
 μ-loop requests answers₀ current₀ left₀ at₀ answers current left at = left
