@@ -2,7 +2,7 @@
 -- answer of a run tells how it was judged; and the program judges its input as a run of all its bytes, though it keeps no more
 -- of them than a run takes. Assumes nothing.
 use Prim.Native.Nat.{ℕ, _*_, _/_, _%_, _<_, _≤_}
-use mathlib.Core.Path.{_≡_, refl}
+use mathlib.Core.Path.{_≡_, refl, _∙_}
 use mathlib.Core.Bool.{Bool, true, false}
 use mathlib.Core.List.{List}
 use native.Mathlib.Omega.{arith}
@@ -20,6 +20,8 @@ use Rattle.steps.specs.declared.Refusal.{Refusal}
 use Rattle.steps.specs.declared.Answer.{Answer}
 use Rattle.steps.specs.declared.Verdict.{Verdict}
 use Rattle.steps.proofs.Verdicts.{passed as all-hold}
+use Rattle.wire.specs.Buffers.{answerFor}
+use Rattle.wire.proofs.Premises.{answer-passed, answer-failed}
 use Rattle.replay.specs.Run.{wholePremises, runVerdict, ends, ranOf}
 use Rattle.replay.specs.Reply.{longest, tooLong, inputVerdict}
 
@@ -48,25 +50,25 @@ module _ {page : Page} {bytes space : ℕ} where
   passed a = simp (a .sound, eq-eqb _ _ (a .whole), le-leb _ _ (a .few), le-leb _ _ (a .room))
 
 -- ---- the answer tells the verdict
-module _ (page : Page) (requests : List ℕ) where
-  ends-accepted : (v : Verdict) → ends page requests v .answer ≡ Answer.Accepted → v ≡ Verdict.Passed
-  ends-accepted Verdict.Passed e = refl
-  ends-accepted (Verdict.Failed why) e = absurd (let z : _≡_ {A = ℕ} 0 1 = cc in omega arith)
-
-  ends-refused : (v : Verdict) (why : Refusal) → ends page requests v .answer ≡ Answer.Refused why → v ≡ Verdict.Failed why
-  ends-refused Verdict.Passed why e = absurd (let z : _≡_ {A = ℕ} 0 1 = cc in omega arith)
-  ends-refused (Verdict.Failed other) why e = cc
+-- a run is answered as a writing is
+ends-answer : (page : Page) (requests : List ℕ) (v : Verdict) → answerFor v ≡ ends page requests v .answer
+ends-answer page requests Verdict.Passed = refl
+ends-answer page requests (Verdict.Failed why) = refl
 
 module _ (page : Page) (requests answers : List ℕ) where
   pub verdict-accepted : ranOf page requests answers .answer ≡ Answer.Accepted
       → runVerdict page (length requests) (length answers) ≡ Verdict.Passed
   unfolding ranOf
-  verdict-accepted e = ends-accepted page requests (runVerdict page (length requests) (length answers)) e
+  verdict-accepted e =
+      let v = runVerdict page (length requests) (length answers) in
+      answer-passed v (ends-answer page requests v ∙ e)
 
   pub verdict-refused : (why : Refusal) → ranOf page requests answers .answer ≡ Answer.Refused why
       → runVerdict page (length requests) (length answers) ≡ Verdict.Failed why
   unfolding ranOf
-  verdict-refused why e = ends-refused page requests (runVerdict page (length requests) (length answers)) why e
+  verdict-refused why e =
+      let v = runVerdict page (length requests) (length answers) in
+      answer-failed v why (ends-answer page requests v ∙ e)
 
 -- ---- the program's input
 module _ (total space : ℕ) (long : longest < total) where

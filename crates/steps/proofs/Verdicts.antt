@@ -37,7 +37,7 @@ verdict-append ((why, true) ∷ xs) ys = verdict-append xs ys
 verdict-append ((why, false) ∷ xs) ys = refl
 
 -- ---- a step
--- a step never answers with a refusal of its own, so what is answered with one is refused by a premise, and changes nothing
+-- where a step has no refusal for its own answer, what is answered with one is refused by a premise, and changes nothing
 pub refused-keeps : (h : Head) (st : Step) (why : Refusal)
     → ((other : Refusal) → st .answer ≡ Answer.Refused other → ⊥)
     → decided h st .answer ≡ Answer.Refused why → decided h st ≡ refused h why

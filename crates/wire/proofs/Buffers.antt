@@ -15,10 +15,10 @@ use Rattle.steps.specs.declared.Verdict.{Verdict}
 use Rattle.steps.specs.Premises.{verdict}
 use Rattle.steps.specs.Requests.{formal, judged}
 use Rattle.wire.specs.Bytes.{valueLimit}
-use Rattle.wire.specs.Buffers.{room, answerFor, leaves, putAnswer, putTo}
+use Rattle.wire.specs.Buffers.{room, leaves, putAnswer, putTo}
 use Rattle.wire.specs.Requests.{bytesOf, readOf, writable, wroteAnswer, wroteTo}
 use Rattle.wire.specs.declared.Reading.{Reading}
-use Rattle.wire.proofs.Premises.{answer-passed, holds-before}
+use Rattle.wire.proofs.Premises.{answer-passed, answer-failed, holds-before}
 use Rattle.wire.proofs.Records.{length-record}
 use Rattle.wire.proofs.Trips.{write-read}
 
@@ -44,18 +44,9 @@ pub length-bytes : (q : Request) → length (bytesOf q) ≡ recordSize
 unfolding bytesOf
 length-bytes q = length-record (q .step) (q .bucket .0) (q .clean) (q .value)
 
-module _ (bytes l : List ℕ) (sixteen : length bytes ≡ recordSize) where
-  past : (v : Verdict) → drop recordSize (leaves v bytes l) ≡ drop recordSize l
-  past Verdict.Passed = drop-at bytes (drop recordSize l) recordSize sixteen
-  past (Verdict.Failed why) = refl
-
-  first : (v : Verdict) → answerFor v ≡ Answer.Accepted → take recordSize (leaves v bytes l) ≡ bytes
-  first Verdict.Passed e = take-at bytes (drop recordSize l) recordSize sixteen
-  first (Verdict.Failed why) e = absurd (let z : _≡_ {A = ℕ} 0 1 = cc in omega arith)
-
-  same : (v : Verdict) (why : Refusal) → answerFor v ≡ Answer.Refused why → leaves v bytes l ≡ l
-  same Verdict.Passed why e = absurd (let z : _≡_ {A = ℕ} 0 1 = cc in omega arith)
-  same (Verdict.Failed other) why e = refl
+past : (bytes l : List ℕ) → length bytes ≡ recordSize → (v : Verdict) → drop recordSize (leaves v bytes l) ≡ drop recordSize l
+past bytes l sixteen Verdict.Passed = drop-at bytes (drop recordSize l) recordSize sixteen
+past bytes l sixteen (Verdict.Failed why) = refl
 
 module _ (q : Request) (l : List ℕ) where
   -- only the first sixteen bytes change
@@ -66,12 +57,14 @@ module _ (q : Request) (l : List ℕ) where
   -- what is refused touches nothing
   pub write-untouched : (why : Refusal) → wroteAnswer q l ≡ Answer.Refused why → wroteTo q l ≡ l
   unfolding wroteAnswer wroteTo
-  write-untouched why e = same (bytesOf q) l (length-bytes q) (verdict (writable q l)) why e
+  write-untouched why e = ap (λ (v : Verdict). leaves v (bytesOf q) l) (answer-failed (verdict (writable q l)) why e)
 
   -- what is accepted stands in the first sixteen bytes
   pub write-first : wroteAnswer q l ≡ Answer.Accepted → take recordSize (wroteTo q l) ≡ bytesOf q
   unfolding wroteAnswer wroteTo
-  write-first e = first (bytesOf q) l (length-bytes q) (verdict (writable q l)) e
+  write-first e =
+      ap (λ (v : Verdict). take recordSize (leaves v (bytesOf q) l)) (answer-passed (verdict (writable q l)) e)
+      ∙ take-at (bytesOf q) (drop recordSize l) recordSize (length-bytes q)
 
   -- and reads back as the request
   pub write-back : wroteAnswer q l ≡ Answer.Accepted → q .value < valueLimit
