@@ -2,6 +2,7 @@
 // is only input and output.
 ghost use Prim.Native.Nat.{_*_, _≤_};
 ghost use Rattle.replay.specs.Reply.{longest};
+ghost use Rattle.desk.specs.Limits.{more};
 use libc::STDIN_FILENO;
 use libc::STDOUT_FILENO;
 use replay::LONGEST;
@@ -19,7 +20,7 @@ fn read_on() -> usize
 
 // How many bytes the input has past those that are kept, as far as they are counted.
 fn count_rest() -> usize
-    ensures { λ r. ⌜ r ≤ 31 * longest ⌝ }
+    ensures { λ r. ⌜ r ≤ more * longest ⌝ }
 {
     let mut counted: usize = 0;
     let mut left = MORE;

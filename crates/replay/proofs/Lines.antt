@@ -20,12 +20,16 @@ use Rattle.replay.proofs.Judged.{allowed, verdict-accepted}
 use Rattle.replay.proofs.Pages.{length-requests, request-at}
 
 -- ---- the lines
+-- requests in two parts are answered as the second after the first (`page-append` says the same of the page). Nothing rests on
+-- it: it shows that a run may be cut into shorter ones
 pub lines-append : (page : Page) (before after : List (List ℕ))
     → linesOf page (before ++ after) ≡ linesOf page before ++ linesOf (pageAfter page before) after
 lines-append page [] after = refl
 lines-append page (q ∷ before) after =
-    ap (λ (l : List ℕ). lineOf (turnOf page q .answer) ++ l) (lines-append (turnOf page q .page) before after)
-    ∙ sym (append-assoc (lineOf (turnOf page q .answer)) (linesOf (turnOf page q .page) before) (linesOf (pageAfter page (q ∷ before)) after))
+    let line = lineOf (turnOf page q .answer) in
+    let next = turnOf page q .page in
+    ap (λ (l : List ℕ). line ++ l) (lines-append next before after)
+    ∙ sym (append-assoc line (linesOf next before) (linesOf (pageAfter next before) after))
 
 module _ (w : ℕ) (wide : (a : Answer) → length (lineOf a) ≡ w) where
   length-of : (page : Page) (qs : List (List ℕ)) → length (linesOf page qs) ≡ w * length qs
@@ -38,7 +42,8 @@ module _ (w : ℕ) (wide : (a : Answer) → length (lineOf a) ≡ w) where
   line-of page (q ∷ qs) zero h =
       rw mul-zero (take-at (lineOf (turnOf page q .answer)) (linesOf (turnOf page q .page) qs) w (wide (turnOf page q .answer)))
   line-of page (q ∷ qs) (suc k) h =
-      let e : w * suc k ≡ length (lineOf (turnOf page q .answer)) + w * k = simp mul-suc (omega (arith, wide (turnOf page q .answer))) in
+      let answer = turnOf page q .answer in
+      let e : w * suc k ≡ length (lineOf answer) + w * k = simp mul-suc (omega (arith, wide answer)) in
       rw (e, drop-append-add) (line-of (turnOf page q .page) qs k (omega arith))
 
 -- a line that stands whole in the first of two parts
@@ -65,7 +70,8 @@ module _ (page : Page) (requests : List ℕ) (space : ℕ) (passed : runVerdict 
 
 -- its length never changes
 module _ (page : Page) (requests answers : List ℕ) where
-  length-fills : (v : Verdict) → runVerdict page (length requests) (length answers) ≡ v → length (fills page requests answers v) ≡ length answers
+  length-fills : (v : Verdict) → runVerdict page (length requests) (length answers) ≡ v
+      → length (fills page requests answers v) ≡ length answers
   length-fills Verdict.Passed e =
       let f = lines-fit page requests (length answers) e in
       let h = requests-fit page requests (length answers) e in
@@ -97,9 +103,6 @@ module _ (page : Page) (requests answers : List ℕ) (accepted : ranOf page requ
       ∙ line-in recordSize (length qs) k (linesOf page qs) (drop (length requests) answers) (length-lines page qs) in-range
       ∙ line-of recordSize length-line page qs k in-range
       ∙ ap (λ (q : List ℕ). lineOf (turnOf (pageAt k page requests) q .answer)) (request-at requests k h)
-
-  pub length-at : (k : ℕ) → k < length requests / recordSize → length (recordAt k (answersOf page requests answers)) ≡ recordSize
-  length-at k h = ap length (line-at k h) ∙ length-line (turnOf (pageAt k page requests) (recordAt k requests) .answer)
 
   -- the bytes past the last line stay
   pub past-lines : drop (length requests) (answersOf page requests answers) ≡ drop (length requests) answers

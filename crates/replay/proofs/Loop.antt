@@ -27,7 +27,8 @@ module _ (w : ℕ) (qs : List ℕ) (at n : ℕ) (page : Page) where
   page-turn : pageAfter page (cut w (suc n) (drop at qs)) ≡ pageAfter (first .page) (cut w n (drop (at + w) qs))
   page-turn = ap (λ (r : List ℕ). pageAfter (first .page) (cut w n r)) (drop-drop w at qs)
 
-  lines-turn : linesOf page (cut w (suc n) (drop at qs)) ≡ lineOf (first .answer) ++ linesOf (first .page) (cut w n (drop (at + w) qs))
+  lines-turn : linesOf page (cut w (suc n) (drop at qs))
+      ≡ lineOf (first .answer) ++ linesOf (first .page) (cut w n (drop (at + w) qs))
   lines-turn = ap (λ (r : List ℕ). lineOf (first .answer) ++ linesOf (first .page) (cut w n r)) (drop-drop w at qs)
 
 -- ---- a line put at its place
@@ -67,40 +68,45 @@ pub record Going (qs old₀ : List ℕ) (page₀ : Page) (n₀ : ℕ) (old : Lis
   pub says : linesOf page₀ (cut recordSize n₀ qs) ++ drop (length qs) old₀
       ≡ take at old ++ linesOf page (cut recordSize n (drop at qs)) ++ drop (length qs) old
 
-module _ {qs old₀ : List ℕ} {page₀ : Page} {n₀ : ℕ} {old : List ℕ} {page : Page} {n at : ℕ} (g : Going qs old₀ page₀ n₀ old page n at) where
+module _ {qs old₀ : List ℕ} {page₀ : Page} {n₀ : ℕ} {old : List ℕ} {page : Page} {n at : ℕ}
+    (g : Going qs old₀ page₀ n₀ old page n at) where
   -- a turn: the request's outcome, by the bytes that are read, and its line, put where its answer goes
   pub going : (o : Outcome) (ys : List ℕ) → 0 < n
-      → o ≡ turnOf page (take (at + 16 - at) (drop at qs))
-      → ys ≡ putTo (lineOf (o .answer)) (midOf at (at + 16 - at) old)
-      → Going qs old₀ page₀ n₀ (putMid at (at + 16 - at) old ys) (o .page) (n - 1) (at + 16)
+      → o ≡ turnOf page (take (at + recordSize - at) (drop at qs))
+      → ys ≡ putTo (lineOf (o .answer)) (midOf at (at + recordSize - at) old)
+      → Going qs old₀ page₀ n₀ (putMid at (at + recordSize - at) old ys) (o .page) (n - 1) (at + recordSize)
   going o ys more turned written =
-      let width : at + 16 - at ≡ 16 = omega arith in
+      let next : ℕ = at + recordSize in
+      let place : List ℕ = midOf at (next - at) old in
+      let new : List ℕ = putMid at (next - at) old ys in
+      let left : List (List ℕ) = cut recordSize (n - 1) (drop next qs) in
+      let width : next - at ≡ recordSize = omega arith in
       let one : n ≡ suc (n - 1) = omega arith in
-      let o-is : o ≡ turnOf page (take 16 (drop at qs)) = turned ∙ ap (λ (w : ℕ). turnOf page (take w (drop at qs))) width in
-      let mid : length (midOf at (at + 16 - at) old) ≡ 16 = mid-len at (at + 16) old (omega arith) ∙ width in
-      let ys-is : ys ≡ lineOf (o .answer) = written ∙ put-whole (lineOf (o .answer)) (midOf at (at + 16 - at) old) mid in
-      let wide : length ys ≡ 16 = ap length ys-is ∙ length-line (o .answer) in
-      let kept : length (putMid at (at + 16 - at) old ys) ≡ length old = same-len-mid at (at + 16 - at) old ys (wide ∙ sym mid) in
-      let whole : length qs ≡ at + 16 + 16 * (n - 1) = omega arith in
-      let rest : List ℕ = linesOf (o .page) (cut 16 (n - 1) (drop (at + 16) qs)) in
-      let next : linesOf page (cut 16 n (drop at qs)) ≡ ys ++ rest =
-      ap (λ (m : ℕ). linesOf page (cut 16 m (drop at qs))) one
-      ∙ lines-turn 16 qs at (n - 1) page
-      ∙ ap (λ (p : Outcome). lineOf (p .answer) ++ linesOf (p .page) (cut 16 (n - 1) (drop (at + 16) qs))) (sym o-is)
+      let o-is : o ≡ turnOf page (take recordSize (drop at qs)) =
+      turned ∙ ap (λ (w : ℕ). turnOf page (take w (drop at qs))) width in
+      let mid : length place ≡ recordSize = mid-len at next old (omega arith) ∙ width in
+      let ys-is : ys ≡ lineOf (o .answer) = written ∙ put-whole (lineOf (o .answer)) place mid in
+      let wide : length ys ≡ recordSize = ap length ys-is ∙ length-line (o .answer) in
+      let kept : length new ≡ length old = same-len-mid at (next - at) old ys (wide ∙ sym mid) in
+      let whole : length qs ≡ next + recordSize * (n - 1) = omega arith in
+      let rest : List ℕ = linesOf (o .page) left in
+      let lines : linesOf page (cut recordSize n (drop at qs)) ≡ ys ++ rest =
+      ap (λ (m : ℕ). linesOf page (cut recordSize m (drop at qs))) one
+      ∙ lines-turn recordSize qs at (n - 1) page
+      ∙ ap (λ (p : Outcome). lineOf (p .answer) ++ linesOf (p .page) left) (sym o-is)
       ∙ ap (λ (z : List ℕ). z ++ rest) (sym ys-is) in
-      let put : take at old ++ (ys ++ rest) ++ drop (length qs) old
-      ≡ take (at + 16) (putMid at (at + 16 - at) old ys) ++ rest ++ drop (length qs) (putMid at (at + 16 - at) old ys) =
-      rw whole (put-turn old ys rest at 16 (16 * (n - 1)) (omega arith) wide) in
+      let put : take at old ++ (ys ++ rest) ++ drop (length qs) old ≡ take next new ++ rest ++ drop (length qs) new =
+      rw whole (put-turn old ys rest at recordSize (recordSize * (n - 1)) (omega arith) wide) in
       record {
         ahead = omega arith;
         room = omega arith;
         long = omega arith;
         ends =
             g .ends
-            ∙ ap (λ (m : ℕ). pageAfter page (cut 16 m (drop at qs))) one
-            ∙ page-turn 16 qs at (n - 1) page
-            ∙ ap (λ (p : Outcome). pageAfter (p .page) (cut 16 (n - 1) (drop (at + 16) qs))) (sym o-is);
-        says = g .says ∙ ap (λ (z : List ℕ). take at old ++ z ++ drop (length qs) old) next ∙ put;
+            ∙ ap (λ (m : ℕ). pageAfter page (cut recordSize m (drop at qs))) one
+            ∙ page-turn recordSize qs at (n - 1) page
+            ∙ ap (λ (p : Outcome). pageAfter (p .page) left) (sym o-is);
+        says = g .says ∙ ap (λ (z : List ℕ). take at old ++ z ++ drop (length qs) old) lines ∙ put;
       }
 
   -- at the end the page is the last one, and the buffer holds all the answers

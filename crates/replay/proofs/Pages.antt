@@ -1,12 +1,12 @@
 -- The requests of a run, and the pages that they leave: each is answered from the page that those before it left, by a step
 -- where its bytes are a request. In order: one request, the requests, the pages. Assumes nothing.
-use Prim.Native.Nat.{ℕ, zero, suc, _+_, _*_, _/_, _<_, _≤_}
+use Prim.Native.Nat.{ℕ, zero, suc, _+_, _*_, _/_, _<_}
 use mathlib.Core.Path.{_≡_, refl, ap, _∙_}
 use mathlib.Core.List.{List, [], _∷_, _++_}
 use native.Mathlib.Omega.{arith}
 use native.Mathlib.Nat.{mul-zero, mul-suc}
 use lib.ListN.{length, take, drop, getD}
-use lib.Seq.{take-all, take-suc, drop-drop}
+use lib.Seq.{take-suc, drop-drop}
 use Rattle.kinds.specs.Limits.{recordSize}
 use Rattle.page_record.specs.declared.Page.{Page}
 use Rattle.steps.specs.declared.Refusal.{Refusal}
@@ -47,28 +47,23 @@ pub request-at : (l : List ℕ) (k : ℕ) → k < length l / recordSize → getD
 request-at l k h = cut-at recordSize (length l / recordSize) k l h
 
 -- ---- the pages
-pub page-append : (page : Page) (before after : List (List ℕ)) → pageAfter page (before ++ after) ≡ pageAfter (pageAfter page before) after
+pub page-append : (page : Page) (before after : List (List ℕ))
+    → pageAfter page (before ++ after) ≡ pageAfter (pageAfter page before) after
 page-append page [] after = refl
 page-append page (q ∷ before) after = page-append (turnOf page q .page) before after
 
 -- the last request leaves the page
-pub page-last : (page : Page) (before : List (List ℕ)) (q : List ℕ) → pageAfter page (before ++ q ∷ []) ≡ turnOf (pageAfter page before) q .page
+pub page-last : (page : Page) (before : List (List ℕ)) (q : List ℕ)
+    → pageAfter page (before ++ q ∷ []) ≡ turnOf (pageAfter page before) q .page
 page-last page before q = page-append page before (q ∷ [])
 
 module _ (page : Page) (requests : List ℕ) where
-  pub page-first : pageAt 0 page requests ≡ page
-  page-first = refl
-
   -- each request leaves its page to the next
-  pub page-next : (k : ℕ) → k < length requests / recordSize → pageAt (suc k) page requests ≡ turnOf (pageAt k page requests) (recordAt k requests) .page
+  pub page-next : (k : ℕ) → k < length requests / recordSize
+      → pageAt (suc k) page requests ≡ turnOf (pageAt k page requests) (recordAt k requests) .page
   page-next k h =
       let qs = requestsOf requests in
       let in-range : k < length qs = rw length-requests h in
       ap (pageAfter page) (take-suc qs k [] in-range)
       ∙ page-last page (take k qs) (getD qs k [])
       ∙ ap (λ (q : List ℕ). turnOf (pageAt k page requests) q .page) (request-at requests k h)
-
-  pub page-all : pageAt (length requests / recordSize) page requests ≡ pageAfter page (requestsOf requests)
-  page-all =
-      let h : length (requestsOf requests) ≤ length requests / recordSize = rw length-requests (omega arith) in
-      ap (pageAfter page) (take-all (length requests / recordSize) (requestsOf requests) h)

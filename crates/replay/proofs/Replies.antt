@@ -61,12 +61,17 @@ module _ (kept out : List ℕ) (total : ℕ) where
 
   module _ (page : Page) (ran : Outcome) (ys : List ℕ) (short : total ≤ longest) (fresh : page ≡ freshPage 0)
       (end : ran ≡ ranOf page kept out) (lines : ys ≡ answersOf page kept out) where
+    -- the input is judged as this run
+    judged-so : inputVerdict kept total (length out) ≡ runVerdict page (length kept) (length out)
+    judged-so = input-kept short ∙ ap (λ (p : Page). runVerdict p (length kept) (length out)) (sym fresh)
+
     -- the run is accepted
-    pub reply-ran : OneOf (0 ∷ 1 ∷ []) (tagOf A.the-type (ran .answer)) → (length kept ≡ replyLength kept total out) × (ys ≡ replyBytes kept total out)
+    pub reply-ran : OneOf (0 ∷ 1 ∷ []) (tagOf A.the-type (ran .answer))
+        → (length kept ≡ replyLength kept total out) × (ys ≡ replyBytes kept total out)
     unfolding ranOf
     reply-ran k =
         let v = not-refused page kept (runVerdict page (length kept) (length out)) (rw end at k) in
-        let t = replies Verdict.Passed (input-kept short ∙ ap (λ (p : Page). runVerdict p (length kept) (length out)) (sym fresh) ∙ v) in
+        let t = replies Verdict.Passed (judged-so ∙ v) in
         (t .0, lines ∙ ap (λ (p : Page). answersOf p kept out) fresh ∙ t .1)
 
     -- the run is refused as a whole
@@ -77,7 +82,7 @@ module _ (kept out : List ℕ) (total : ℕ) where
         let u : ranOf page kept out .answer ≡ Answer.Refused why = rw end at w in
         let v = verdict-refused page kept out why u in
         let same : ys ≡ out = lines ∙ refused-untouched page kept out why u .1 in
-        let t = replies (Verdict.Failed why) (input-kept short ∙ ap (λ (p : Page). runVerdict p (length kept) (length out)) (sym fresh) ∙ v) in
+        let t = replies (Verdict.Failed why) (judged-so ∙ v) in
         (e ∙ ap refusalLength same ∙ t .0, f ∙ ap (refusalBytes why) same ∙ t .1)
 
 -- ---- one record for the whole input
@@ -96,12 +101,14 @@ pub record Within (n : ℕ) (bytes out : List ℕ) : Type 0 where
   pub long : length bytes ≡ length out
   pub past : drop n bytes ≡ drop n out
 
-refusal-within : (why : Refusal) (out : List ℕ) (t : Bool) → leb recordSize (length out) ≡ t → Within (refusalLength out) (refusalBytes why out) out
+refusal-within : (why : Refusal) (out : List ℕ) (t : Bool) → leb recordSize (length out) ≡ t
+    → Within (refusalLength out) (refusalBytes why out) out
 refusal-within why out true e =
     let h = leb-true recordSize (length out) e in
     let f = refusal-fits why out h in
     let wide = length-line (Answer.Refused why) in
-    let long : length (refusalBytes why out) ≡ length out = ap length (f .1) ∙ simp (length-append, length-drop) (omega arith) in
+    let long : length (refusalBytes why out) ≡ length out =
+    ap length (f .1) ∙ simp (length-append, length-drop) (omega arith) in
     record {
       fits = omega arith;
       long = long;
@@ -120,7 +127,8 @@ module _ (kept out : List ℕ) (total : ℕ) where
   input-runs : inputVerdict kept total (length out) ≡ Verdict.Passed → ranOf (freshPage 0) kept out .answer ≡ Answer.Accepted
   unfolding inputVerdict ranOf
   input-runs e =
-      ap (λ (v : Verdict). ends (freshPage 0) kept v .answer) (runs (ltb longest total) (tooLong total) (runVerdict (freshPage 0) (length kept) (length out)) e)
+      let run = runVerdict (freshPage 0) (length kept) (length out) in
+      ap (λ (v : Verdict). ends (freshPage 0) kept v .answer) (runs (ltb longest total) (tooLong total) run e)
 
   within : (v : Verdict) → inputVerdict kept total (length out) ≡ v → Within (lengthFor kept out v) (bytesFor kept out v) out
   within Verdict.Passed e =
@@ -143,29 +151,35 @@ module _ (kept out : List ℕ) (total : ℕ) where
   unfolding replyLength
   reply-small h =
       let none = small h (inputVerdict kept total (length out)) refl in
-      (none, ap (λ (n : ℕ). drop n (replyBytes kept total out)) (sym none) ∙ reply-within .past ∙ ap (λ (n : ℕ). drop n out) none)
+      let bytes = replyBytes kept total out in
+      (none, ap (λ (n : ℕ). drop n bytes) (sym none) ∙ reply-within .past ∙ ap (λ (n : ℕ). drop n out) none)
 
 -- ---- what is written out
 module _ (kept out : List ℕ) (total : ℕ) where
   -- the lines of an input that is run
-  pub writes-lines : total ≤ longest → ranOf (freshPage 0) kept out .answer ≡ Answer.Accepted → written kept total out ≡ linesOf (freshPage 0) (requestsOf kept)
+  pub writes-lines : total ≤ longest → ranOf (freshPage 0) kept out .answer ≡ Answer.Accepted
+      → written kept total out ≡ linesOf (freshPage 0) (requestsOf kept)
   writes-lines h a =
       let v = verdict-accepted (freshPage 0) kept out a in
       let t = replies kept out total Verdict.Passed (input-kept kept out total h ∙ v) in
-      rw (← t .0, ← t .1, answers-are (freshPage 0) kept out a)
-      (take-at (linesOf (freshPage 0) (requestsOf kept)) (drop (length kept) out) (length kept) (lines-fit (freshPage 0) kept (length out) v))
+      let lines = linesOf (freshPage 0) (requestsOf kept) in
+      let fit = lines-fit (freshPage 0) kept (length out) v in
+      rw (← t .0, ← t .1, answers-are (freshPage 0) kept out a) (take-at lines (drop (length kept) out) (length kept) fit)
 
   -- one record for an input that is refused as a whole
-  writes-one : (why : Refusal) → inputVerdict kept total (length out) ≡ Verdict.Failed why → recordSize ≤ length out → written kept total out ≡ lineOf (Answer.Refused why)
+  writes-one : (why : Refusal) → inputVerdict kept total (length out) ≡ Verdict.Failed why → recordSize ≤ length out
+      → written kept total out ≡ lineOf (Answer.Refused why)
   writes-one why e h =
       let t = replies kept out total (Verdict.Failed why) e in
       let f = refusal-fits why out h in
-      rw (← t .0, ← t .1, f .0, f .1) (take-at (lineOf (Answer.Refused why)) (drop recordSize out) recordSize (length-line (Answer.Refused why)))
+      let answer = Answer.Refused why in
+      rw (← t .0, ← t .1, f .0, f .1) (take-at (lineOf answer) (drop recordSize out) recordSize (length-line answer))
 
-  pub writes-refusal : (why : Refusal) → total ≤ longest → ranOf (freshPage 0) kept out .answer ≡ Answer.Refused why → recordSize ≤ length out
-      → written kept total out ≡ lineOf (Answer.Refused why)
+  pub writes-refusal : (why : Refusal) → total ≤ longest → ranOf (freshPage 0) kept out .answer ≡ Answer.Refused why
+      → recordSize ≤ length out → written kept total out ≡ lineOf (Answer.Refused why)
   writes-refusal why h e = writes-one why (input-kept kept out total h ∙ verdict-refused (freshPage 0) kept out why e)
 
   -- for an input that is longer than a run it is 12 or 13, by its length alone
-  pub writes-length : longest < total → recordSize ≤ length out → written kept total out ≡ lineOf (Answer.Refused (tooLong total))
+  pub writes-length : longest < total → recordSize ≤ length out
+      → written kept total out ≡ lineOf (Answer.Refused (tooLong total))
   writes-length h = writes-one (tooLong total) (input-long kept out total h)

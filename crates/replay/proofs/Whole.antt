@@ -26,7 +26,8 @@ module _ (page : Page) (requests answers : List ℕ) where
   unfolding ranOf
   has-accepted a = ap (λ (v : Verdict). ends page requests v .answer) (passed a)
 
-  pub run-none : ranOf page requests answers .answer ≡ Answer.Accepted → (why : Refusal) → Applies (runPremises page requests answers) why → ⊥
+  pub run-none : ranOf page requests answers .answer ≡ Answer.Accepted
+      → (why : Refusal) → Applies (runPremises page requests answers) why → ⊥
   unfolding runVerdict
   run-none e = none (runPremises page requests answers) (verdict-accepted page requests answers e)
 
@@ -34,7 +35,8 @@ module _ (page : Page) (requests answers : List ℕ) where
   pub run-lowest : (why : Refusal) → ranOf page requests answers .answer ≡ Answer.Refused why
       → Lowest refusalNumber (runPremises page requests answers) why
   unfolding runVerdict
-  run-lowest why e = lowest refusalNumber 0 (runPremises page requests answers) why refl (verdict-refused page requests answers why e)
+  run-lowest why e =
+      lowest refusalNumber 0 (runPremises page requests answers) why refl (verdict-refused page requests answers why e)
 
   pub refused-untouched : (why : Refusal) → ranOf page requests answers .answer ≡ Answer.Refused why
       → (ranOf page requests answers ≡ refusedBy page why) × (answersOf page requests answers ≡ answers)

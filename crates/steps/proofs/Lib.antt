@@ -1,4 +1,5 @@
 pub mod Holders
 pub mod Numbers
+pub mod Reasons
 pub mod Tests
 pub mod Verdicts

@@ -34,7 +34,8 @@ module _ {A : Type 0} where
   puts xs [] = xs
   puts xs (p ∷ ps) = set (puts xs ps) (p .0) (p .1)
 
-  pub elsewhere : (xs : List A) (ps : List (ℕ × A)) (n : ℕ) (d : A) → NoneOf (keys ps) n → getD (puts xs ps) n d ≡ getD xs n d
+  pub elsewhere : (xs : List A) (ps : List (ℕ × A)) (n : ℕ) (d : A)
+      → NoneOf (keys ps) n → getD (puts xs ps) n d ≡ getD xs n d
   elsewhere xs [] n d none = refl
   elsewhere xs (p ∷ ps) n d none =
       getD-set-other (puts xs ps) (p .0) n (p .1) d (none .1) ∙ elsewhere xs ps n d (none .0)

@@ -1,7 +1,6 @@
--- What a list of premises comes to, by one induction each: all hold just if none fails (`passed`, `passes`); the reason that
--- is given is that of the first that fails (`failed`, `fails`); two lists are judged one after the other (`verdict-append`).
--- And what that makes of a step: where all hold it answers as it says (`decided-passed`), and a refusal changes nothing
--- (`decided-failed`, `refused-keeps`; `decide-keeps` for every step). Assumes nothing.
+-- What a list of premises comes to, by one induction each: where none fails, all hold (`passed`); two lists are judged one
+-- after the other (`verdict-append`). And what that makes of a step: a refusal changes nothing (`refused-keeps`, and
+-- `decide-keeps` for every step of the table). Assumes nothing.
 use Prim.Native.Nat.{ℕ, zero, suc}
 use mathlib.Core.Bool.{Bool, true, false}
 use mathlib.Core.List.{List, [], _∷_, _++_}
@@ -27,43 +26,6 @@ passed [] e = tt
 passed ((why, true) ∷ cs) e = (tt, passed cs e)
 passed ((why, false) ∷ cs) e = absurd (never why e)
 
-pub passes : (cs : List (Refusal × Bool)) → Passes cs → verdict cs ≡ Verdict.Passed
-passes [] p = refl
-passes ((why, true) ∷ cs) p = passes cs (p .1)
-passes ((why, false) ∷ cs) p = absurd (p .0)
-
--- ---- one fails
--- a premise with this reason fails, and those before it hold
-pub record FailsFirst (cs : List (Refusal × Bool)) (why : Refusal) : Type 0 where
-  pub before : List (Refusal × Bool)
-  pub after : List (Refusal × Bool)
-  pub split : cs ≡ before ++ (why, false) ∷ after
-  pub held : Passes before
-
-pub failed : (cs : List (Refusal × Bool)) (why : Refusal) → verdict cs ≡ Verdict.Failed why → FailsFirst cs why
-failed [] why e = let z : _≡_ {A = ℕ} 0 1 = cc in absurd (omega arith)
-failed ((other, true) ∷ cs) why e =
-    let f = failed cs why e in
-    record {
-      before = (other, true) ∷ f .before;
-      after = f .after;
-      split = ap (λ (l : List (Refusal × Bool)). (other, true) ∷ l) (f .split);
-      held = (tt, f .held);
-    }
-failed ((other, false) ∷ cs) why e =
-    record {
-      before = [];
-      after = cs;
-      split = let same : other ≡ why = cc in ap (λ (w : Refusal). (w, false) ∷ cs) same;
-      held = tt;
-    }
-
-pub fails : (before after : List (Refusal × Bool)) (why : Refusal)
-    → Passes before → verdict (before ++ (why, false) ∷ after) ≡ Verdict.Failed why
-fails [] after why p = refl
-fails ((other, true) ∷ before) after why p = fails before after why (p .1)
-fails ((other, false) ∷ before) after why p = absurd (p .0)
-
 -- ---- one list after another
 abbrev pub andThen : Verdict → Verdict → Verdict
 andThen Verdict.Passed v = v
@@ -75,15 +37,7 @@ verdict-append ((why, true) ∷ xs) ys = verdict-append xs ys
 verdict-append ((why, false) ∷ xs) ys = refl
 
 -- ---- a step
-pub decided-passed : (h : Head) (st : Step)
-    → Passes (st .premises) → decided h st ≡ record { answer = st .answer; head = st .head; edit = st .edit }
-decided-passed h st p = ap (settled h st) (passes (st .premises) p)
-
-pub decided-failed : (h : Head) (st : Step) (why : Refusal)
-    → verdict (st .premises) ≡ Verdict.Failed why → decided h st ≡ refused h why
-decided-failed h st why e = ap (settled h st) e
-
--- a step never answers with a refusal of its own, so what is answered with one is refused by a premise, and changes nothing
+-- where a step has no refusal for its own answer, what is answered with one is refused by a premise, and changes nothing
 pub refused-keeps : (h : Head) (st : Step) (why : Refusal)
     → ((other : Refusal) → st .answer ≡ Answer.Refused other → ⊥)
     → decided h st .answer ≡ Answer.Refused why → decided h st ≡ refused h why

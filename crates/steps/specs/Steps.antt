@@ -48,7 +48,7 @@ placeOf Found.Nowhere = 0
 abbrev pub reader : Phase → Bucket → Reader
 reader phase bucket = record { phase = phase; bucket = bucket }
 
--- the count at a bucket is below 31
+-- the count at a bucket is below the ceiling
 abbrev pub under : Head → ℕ → Bool
 under h b = ltb (numberAt (h .«ref_counts») b) ceiling
 
@@ -190,7 +190,8 @@ abbrev pub depositLoadingToDone : Head → Request → Step
 depositLoadingToDone h q =
     let l = h .«loading_state» in
     accepts ((Refusal.NoHolder, isLoaded l) ∷ (Refusal.WrongBucket, hasBucket (loadingBucket l)) ∷ [])
-    (lowered (bucketOf (loadingBucket l) .0) (withFlag Flag.Available (withStorage (Storage.In (q .value)) (withLoading LoadingState.None h))))
+    (lowered (bucketOf (loadingBucket l) .0)
+    (withFlag Flag.Available (withStorage (Storage.In (q .value)) (withLoading LoadingState.None h))))
     Edit.Keep
 
 -- 18, line 356: an editor that has no bucket gets one

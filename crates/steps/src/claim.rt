@@ -1,4 +1,6 @@
-// Claims on the page: steps 3 to 5.
+// Claims: steps 3 to 5, the start of an editor's life. One claim stands at a time, and readers go on under it. Who claims has
+// no bucket (3), or is a reader that leaves the list and keeps its reference (4). Then no more readers get past their first
+// check, and the claimant waits for the archive (5).
 ghost use mathlib.Core.Path.{_≡_};
 ghost use Rattle.steps.specs.Premises.{decided};
 ghost use Rattle.steps.specs.Steps.{bucketlessClaim, sharedToClaim, claimToPending};

@@ -1,4 +1,6 @@
-// The editor: steps 6 to 10, and 18.
+// The editor, from the end of its wait until it puts the page in: steps 6 to 10, and 18. It closes the page (6), looks at one
+// bucket after the other until it has found no reference but its own (7), and gets the page (8). It puts the page in and goes
+// on as a reader (9) or as a claimant (10), for which it needs a bucket: one that has none gets one first (18).
 ghost use mathlib.Core.Path.{_≡_};
 ghost use Rattle.steps.specs.Premises.{decided};
 ghost use Rattle.steps.specs.Steps.{takeExcLockFinishWriteback, takeExcLockCheckRefCount, withdrawTakeExcLockFinish, depositDowngradeExcLock, depositDowngradeExcLockToClaim, excIncCount};

@@ -82,6 +82,7 @@ pub enum Refusal {
     NoRoom,
 }
 
+// What a request is answered: that it is accepted, and which value is handed out for it if one is, or why it is refused.
 pub enum Answer {
     Accepted,
     Withdrew(u64),

@@ -1,4 +1,6 @@
-// The loader: steps 11 to 17.
+// The loader, the first in a page's life: steps 11 to 17. An unmapped page is handed out to it to be filled (11, or 12 where it
+// wants no bucket). It gets a bucket (13) and then lets readers pass their first check (14), or does so with no bucket (15).
+// It puts the page in and goes on as a reader (16) or leaves (17); both need a bucket, so one that has none keeps the page.
 ghost use mathlib.Core.Path.{_≡_};
 ghost use Rattle.steps.specs.Premises.{decided};
 ghost use Rattle.steps.specs.Steps.{withdrawTo, withdrawAlloc, withdrawAllocNoRefcount, loadingIncCount, obtainLoading, obtainLoadingNoRefcount, depositLoadingToShared, depositLoadingToDone};

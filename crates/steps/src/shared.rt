@@ -1,4 +1,6 @@
-// Readers: steps 19 to 24.
+// Readers: steps 19 to 24, the life of one. It comes to a bucket, where it is counted (19). It checks that readers aren't
+// shut out (23), then that nobody loads, and from there on has the value that is in storage (24). It may leave before, between
+// and after the two checks, and isn't counted any more (20 to 22).
 ghost use mathlib.Core.Path.{_≡_};
 ghost use Rattle.steps.specs.Premises.{decided};
 ghost use Rattle.steps.specs.Steps.{sharedIncCount, sharedDecCount, sharedCheckExc, sharedCheckLoading};
@@ -71,7 +73,7 @@ pub fn shared_dec_count_obtained(h: Head, q: Request, found: Found) -> Decision
     shared_dec_count(h, q, found)
 }
 
-// 23: the first check, that no editor shuts readers out. Changed: it takes no value.
+// 23: the first check, that readers aren't shut out. Changed: it takes no value.
 pub fn shared_check_exc(h: Head, q: Request, found: Found) -> Decision
     ensures { λ r. ⌜ r ≡ decided h (sharedCheckExc h q found) ⌝ }
 {

@@ -1,4 +1,5 @@
-// The archive: steps 1 and 2.
+// The archive: steps 1 and 2. It writes a page back that nobody loads, claims or edits; readers go on meanwhile, and an editor
+// may claim the page, but waits for the archive before it closes it.
 ghost use mathlib.Core.Path.{_≡_};
 ghost use Rattle.steps.specs.Premises.{decided};
 ghost use Rattle.steps.specs.Steps.{takeWriteback, releaseWriteback};

@@ -1,5 +1,5 @@
--- Laws of numbers as bytes, in this order: bytes, how large their number is, one turn of each loop, and that reading and
--- writing a number undo each other. Assumes nothing.
+-- Laws of numbers as bytes, in this order: bytes, how large their number is, one turn of the loop that writes them, and that
+-- reading and writing a number undo each other. Assumes nothing.
 use Prim.Native.Nat.{ℕ, zero, suc, _+_, _*_, _/_, _%_, _^_, _-_, _<_, _≤_}
 use mathlib.Core.Path.{_≡_, refl, sym}
 use mathlib.Core.Bool.{Bool, true, false, _&&_}
@@ -10,7 +10,7 @@ use native.Mathlib.Nat.{pow-succ'}
 use borrow.Author.Tests.{eqb-true}
 use lib.Dec.{eqb}
 use lib.ListN.{length, take, drop, getD, set, replicate}
-use lib.Seq.{drop-cons, getD-drop, take-suc-set, append-snoc}
+use lib.Seq.{getD-drop, take-suc-set, append-snoc}
 use Rattle.wire.specs.Bytes.{number, lowBytes, blank}
 
 -- ---- bytes
@@ -53,18 +53,13 @@ number-below (suc n) (x ∷ l) h b =
     let r = number-below n l (omega arith) (λ i. b (suc i)) in
     rw pow-succ' (omega (arith, b 0))
 
--- ---- a turn of each loop
-module _ (l : List ℕ) (k : ℕ) (more : k < length l) where
-  -- the next byte, and those after it
-  pub next : drop k l ≡ getD l k 0 ∷ drop (k + 1) l
-  next = rw (add-one k, drop-cons l k 0)
-
-  -- the byte that is stored is the first of those still to come
-  pub stored : (n x : ℕ) → k < n
-      → take k l ++ lowBytes (n - k) x ≡ take (k + 1) (set l k (x % 256)) ++ lowBytes (n - (k + 1)) (x / 256)
-  stored n x h =
-      let e : n - k ≡ suc (n - (k + 1)) = omega arith in
-      rw (e, add-one k, take-suc-set l k (x % 256)) (sym (append-snoc (take k l) (x % 256) (lowBytes (n - suc k) (x / 256))))
+-- ---- a turn of the loop that writes
+-- the byte that is stored is the first of those still to come
+pub stored : (l : List ℕ) (k : ℕ) → k < length l → (n x : ℕ) → k < n
+    → take k l ++ lowBytes (n - k) x ≡ take (k + 1) (set l k (x % 256)) ++ lowBytes (n - (k + 1)) (x / 256)
+stored l k more n x h =
+    let e : n - k ≡ suc (n - (k + 1)) = omega arith in
+    rw (e, add-one k, take-suc-set l k (x % 256)) (sym (append-snoc (take k l) (x % 256) (lowBytes (n - suc k) (x / 256))))
 
 -- ---- there and back
 pub number-lowBytes : (n v : ℕ) → v < 256 ^ n → number (lowBytes n v) ≡ v

@@ -40,13 +40,15 @@ ordered order n [] = true
 ordered order n (p ∷ ps) = leb n (order (p .0)) && ordered order (order (p .0)) ps
 
 module _ (order : Refusal → ℕ) where
-  above : (n : ℕ) (ps : List (Refusal × Bool)) → ordered order n ps ≡ true → (other : Refusal) → Applies ps other → n ≤ order other
+  above : (n : ℕ) (ps : List (Refusal × Bool)) → ordered order n ps ≡ true
+      → (other : Refusal) → Applies ps other → n ≤ order other
   above n (p ∷ ps) o other t =
       let b = both (leb n (order (p .0))) (ordered order (order (p .0)) ps) o in
       let h = leb-true n (order (p .0)) (b .0) in
       ⊎-elim (λ u. omega (arith, ap order (u .0))) (λ u. omega (arith, above (order (p .0)) ps (b .1) other u)) t
 
-  pub lowest : (n : ℕ) (ps : List (Refusal × Bool)) (why : Refusal) → ordered order n ps ≡ true → verdict ps ≡ Verdict.Failed why → Lowest order ps why
+  pub lowest : (n : ℕ) (ps : List (Refusal × Bool)) (why : Refusal) → ordered order n ps ≡ true
+      → verdict ps ≡ Verdict.Failed why → Lowest order ps why
   lowest n [] why o e = absurd (let z : _≡_ {A = ℕ} 0 1 = cc in omega arith)
   lowest n ((first, true) ∷ ps) why o e =
       let r = lowest (order first) ps why (both (leb n (order first)) (ordered order (order first) ps) o .1) e in
@@ -81,10 +83,12 @@ unfolding readOf
 read-none l q e = none (readable l) (read-passed (fieldsOf l) q (verdict (readable l)) e .0)
 
 -- ---- writing
-pub write-lowest : (q : Request) (l : List ℕ) (why : Refusal) → wroteAnswer q l ≡ Answer.Refused why → Lowest refusalNumber (writable q l) why
+pub write-lowest : (q : Request) (l : List ℕ) (why : Refusal) → wroteAnswer q l ≡ Answer.Refused why
+    → Lowest refusalNumber (writable q l) why
 unfolding wroteAnswer
 write-lowest q l why e = lowest refusalNumber 0 (writable q l) why refl (answer-failed (verdict (writable q l)) why e)
 
-pub write-none : (q : Request) (l : List ℕ) → wroteAnswer q l ≡ Answer.Accepted → (why : Refusal) → Applies (writable q l) why → ⊥
+pub write-none : (q : Request) (l : List ℕ) → wroteAnswer q l ≡ Answer.Accepted
+    → (why : Refusal) → Applies (writable q l) why → ⊥
 unfolding wroteAnswer
 write-none q l e = none (writable q l) (answer-passed (verdict (writable q l)) e)

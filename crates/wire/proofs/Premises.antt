@@ -20,7 +20,7 @@ use Rattle.steps.specs.Premises.{verdict}
 use Rattle.steps.specs.Requests.{isStep, fieldsFit, bucketFits, formal, judged}
 use Rattle.wire.specs.Answers.{lineOf}
 use Rattle.wire.specs.Buffers.{room, answerFor, leaves, putAnswer, putTo}
-use Rattle.wire.specs.Bytes.{blank, part, recordOf}
+use Rattle.wire.specs.Bytes.{zerosAt, valueAt, blank, part, recordOf}
 use Rattle.wire.specs.Requests.{bytesOf, fieldsOf, readingOf, readOf, orBadField, wroteAnswer, wroteTo}
 use Rattle.wire.specs.declared.Reading.{Reading}
 
@@ -48,7 +48,8 @@ answer-failed (Verdict.Failed other) why e = cc
 pub then-next : (ps qs : List (Refusal × Bool)) → verdict ps ≡ Verdict.Passed → verdict (ps ++ qs) ≡ verdict qs
 then-next ps qs e = verdict-append ps qs ∙ ap (λ (v : Verdict). andThen v (verdict qs)) e
 
-pub stops-first : (ps qs : List (Refusal × Bool)) (why : Refusal) → verdict ps ≡ Verdict.Failed why → verdict (ps ++ qs) ≡ Verdict.Failed why
+pub stops-first : (ps qs : List (Refusal × Bool)) (why : Refusal)
+    → verdict ps ≡ Verdict.Failed why → verdict (ps ++ qs) ≡ Verdict.Failed why
 stops-first ps qs why e = verdict-append ps qs ∙ ap (λ (v : Verdict). andThen v (verdict qs)) e
 
 -- where all hold, those before do
@@ -79,22 +80,26 @@ module _ (l : List ℕ) where
 
   -- what is read, by what the length and bytes 3 to 7 are found to be
   abbrev reads : Bool → Bool → Reading
-  reads long zeros = readingOf q (cond long (beside (isStep (q .step)) (fieldsFit q) zeros (bucketFits q)) (Verdict.Failed Refusal.NotWhole))
+  reads long zeros =
+      let judges = beside (isStep (q .step)) (fieldsFit q) zeros (bucketFits q) in
+      readingOf q (cond long judges (Verdict.Failed Refusal.NotWhole))
 
-  found : (long zeros : Bool) → eqb (length l) recordSize ≡ long → blank (part 3 8 l) ≡ zeros → readOf l ≡ reads long zeros
+  found : (long zeros : Bool) → eqb (length l) recordSize ≡ long → blank (part zerosAt valueAt l) ≡ zeros
+      → readOf l ≡ reads long zeros
   unfolding readOf
-  found long zeros h z = ap (λ (t : Bool). reads t (blank (part 3 8 l))) h ∙ ap (reads long) z
+  found long zeros h z = ap (λ (t : Bool). reads t (blank (part zerosAt valueAt l))) h ∙ ap (reads long) z
 
   pub read-ragged : (length l ≡ recordSize → ⊥) → Reading.Refused Refusal.NotWhole ≡ readOf l
-  read-ragged h = sym (found false (blank (part 3 8 l)) (ne-eqb (length l) recordSize h) refl)
+  read-ragged h = sym (found false (blank (part zerosAt valueAt l)) (ne-eqb (length l) recordSize h) refl)
 
-  pub read-fields : length l ≡ recordSize → blank (part 3 8 l) ≡ true → readingOf q (judged q) ≡ readOf l
+  pub read-fields : length l ≡ recordSize → blank (part zerosAt valueAt l) ≡ true → readingOf q (judged q) ≡ readOf l
   unfolding judged
   read-fields h z =
       ap (λ (t : Bool). readingOf q (alone (isStep (q .step)) t (bucketFits q))) (sym (and-true (fieldsFit q)))
       ∙ sym (found true true (eq-eqb (length l) recordSize h) z)
 
-  pub read-marked : length l ≡ recordSize → blank (part 3 8 l) ≡ false → Reading.Refused (orBadField (judged q)) ≡ readOf l
+  pub read-marked : length l ≡ recordSize → blank (part zerosAt valueAt l) ≡ false
+      → Reading.Refused (orBadField (judged q)) ≡ readOf l
   unfolding judged
   read-marked h z =
       ap (readingOf q) (sym (marked (isStep (q .step)) (fieldsFit q) (bucketFits q)))
@@ -103,7 +108,8 @@ module _ (l : List ℕ) where
 -- ---- writing a request
 module _ (q : Request) (l : List ℕ) where
   -- what the fields are refused for is answered, and the buffer stays
-  pub write-refused : (why : Refusal) → judged q ≡ Verdict.Failed why → (Answer.Refused why ≡ wroteAnswer q l) × (l ≡ wroteTo q l)
+  pub write-refused : (why : Refusal) → judged q ≡ Verdict.Failed why
+      → (Answer.Refused why ≡ wroteAnswer q l) × (l ≡ wroteTo q l)
   unfolding judged wroteAnswer wroteTo
   write-refused why e =
       let v = stops-first (formal q) (room l ∷ []) why e in

@@ -7,7 +7,7 @@ use borrow.Rule.Slice.PartMut.{midOf, putMid, mid-len}
 use lib.ListN.{length, drop, length-append, length-drop}
 use lib.Seq.{sets, sets-eq, length-sets, drop-drop}
 use Rattle.kinds.specs.Limits.{recordSize}
-use Rattle.wire.specs.Bytes.{lowBytes, recordOf}
+use Rattle.wire.specs.Bytes.{valueAt, lowBytes, recordOf}
 
 pub length-record : (a b c v : ℕ) → length (recordOf a b c v) ≡ recordSize
 unfolding recordOf
@@ -18,18 +18,25 @@ module _ (a b c : ℕ) (l : List ℕ) where
   abbrev first : List ℕ
   first = a ∷ b ∷ c ∷ 0 ∷ 0 ∷ 0 ∷ 0 ∷ 0 ∷ []
 
-  pub stored-length : length (sets l 0 first) ≡ length l
+  abbrev stored : List ℕ
+  stored = sets l 0 first
+
+  -- the value's place, as it is lent to be written
+  abbrev place : List ℕ
+  place = midOf valueAt (recordSize - valueAt) stored
+
+  pub stored-length : length stored ≡ length l
   stored-length = length-sets l 0 first
 
-  module _ (v : ℕ) (fits : recordSize ≤ length l) (ys : List ℕ) (value : ys ≡ lowBytes (length (midOf 8 (16 - 8) (sets l 0 first))) v) where
+  module _ (v : ℕ) (fits : recordSize ≤ length l) (ys : List ℕ) (value : ys ≡ lowBytes (length place) v) where
     -- the record, and what stood past it
-    pub put-record : putMid 8 (16 - 8) (sets l 0 first) ys ≡ recordOf a b c v ++ drop recordSize l
+    pub put-record : putMid valueAt (recordSize - valueAt) stored ys ≡ recordOf a b c v ++ drop recordSize l
     unfolding recordOf
     put-record =
-        let eight : length (midOf 8 (16 - 8) (sets l 0 first)) ≡ 8 = mid-len 8 16 (sets l 0 first) (rw stored-length fits) in
-        ap (λ (s : List ℕ). putMid 8 (16 - 8) s ys) (sets-eq first l 0 (omega arith))
-        ∙ ap (λ (z : List ℕ). first ++ (ys ++ z)) (drop-drop 8 8 l)
+        let eight : length place ≡ recordSize - valueAt = mid-len valueAt recordSize stored (rw stored-length fits) in
+        ap (λ (s : List ℕ). putMid valueAt (recordSize - valueAt) s ys) (sets-eq first l 0 (omega arith))
+        ∙ ap (λ (z : List ℕ). first ++ (ys ++ z)) (drop-drop (recordSize - valueAt) valueAt l)
         ∙ ap (λ (z : List ℕ). first ++ (z ++ drop recordSize l)) (value ∙ ap (λ (n : ℕ). lowBytes n v) eight)
 
-    pub put-length : length (putMid 8 (16 - 8) (sets l 0 first) ys) ≡ length l
+    pub put-length : length (putMid valueAt (recordSize - valueAt) stored ys) ≡ length l
     put-length = ap length put-record ∙ simp (length-append, length-record, length-drop) (omega arith)

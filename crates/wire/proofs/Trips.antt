@@ -1,6 +1,6 @@
 -- Reading and writing a request undo each other, and what reading accepts is exactly what writing produces; document 01's
 -- sample, both ways. Assumes nothing.
-use Prim.Native.Nat.{ℕ, _-_, _^_, _<_, _≤_}
+use Prim.Native.Nat.{ℕ, _-_, _<_, _≤_}
 use mathlib.Core.Logic.{_↔_}
 use mathlib.Core.Path.{_≡_, refl, ap, _∙_, sym}
 use mathlib.Core.Bool.{Bool, true, false}
@@ -15,19 +15,19 @@ use Rattle.kinds.specs.Limits.{recordSize}
 use Rattle.steps.specs.declared.Request.{Request}
 use Rattle.steps.specs.declared.Verdict.{Verdict}
 use Rattle.steps.specs.Requests.{judged}
-use Rattle.wire.specs.Bytes.{number, lowBytes, blank, part, recordOf}
+use Rattle.wire.specs.Bytes.{zerosAt, valueAt, valueLimit, number, lowBytes, blank, part, recordOf}
 use Rattle.wire.specs.Requests.{InRange, bytesOf, fieldsOf, readingOf, readOf}
 use Rattle.wire.specs.declared.Reading.{Reading}
 use Rattle.wire.proofs.Bytes.{Bytes, bytes-take, bytes-drop, zeros-are, number-below, number-lowBytes, lowBytes-number}
 use Rattle.wire.proofs.Premises.{read-passed, read-ragged, read-fields, read-marked}
 
 -- ---- write, then read
-pub fields-bytes : (q : Request) → q .value < 256 ^ 8 → fieldsOf (bytesOf q) ≡ q
+pub fields-bytes : (q : Request) → q .value < valueLimit → fieldsOf (bytesOf q) ≡ q
 unfolding bytesOf recordOf
 fields-bytes q h =
     ap (λ (v : ℕ). record { step = q .step; bucket = q .bucket; clean = q .clean; value = v }) (number-lowBytes 8 (q .value) h)
 
-pub write-read : (q : Request) → judged q ≡ Verdict.Passed → q .value < 256 ^ 8 → readOf (bytesOf q) ≡ Reading.Request q
+pub write-read : (q : Request) → judged q ≡ Verdict.Passed → q .value < valueLimit → readOf (bytesOf q) ≡ Reading.Request q
 unfolding bytesOf recordOf
 write-read q e h =
     sym (read-fields (bytesOf q) refl refl)
@@ -37,14 +37,14 @@ write-read q e h =
 -- ---- what an accepted reading tells
 pub record Accepted (l : List ℕ) (q : Request) : Type 0 where
   pub whole : length l ≡ recordSize
-  pub zeros : blank (part 3 8 l) ≡ true
+  pub zeros : blank (part zerosAt valueAt l) ≡ true
   pub fits : judged q ≡ Verdict.Passed
   pub fields : fieldsOf l ≡ q
 
 pub accepted : (l : List ℕ) (q : Request) → readOf l ≡ Reading.Request q → Accepted l q
-accepted l q e = go (eqb (length l) recordSize) (blank (part 3 8 l)) refl refl
+accepted l q e = go (eqb (length l) recordSize) (blank (part zerosAt valueAt l)) refl refl
   where
-    go : (long zeros : Bool) → eqb (length l) recordSize ≡ long → blank (part 3 8 l) ≡ zeros → Accepted l q
+    go : (long zeros : Bool) → eqb (length l) recordSize ≡ long → blank (part zerosAt valueAt l) ≡ zeros → Accepted l q
     go false zeros h z =
         let r = read-ragged l (eqb-false (length l) recordSize h) in
         absurd (let z : _≡_ {A = ℕ} 0 1 = cc in omega arith)
@@ -57,7 +57,7 @@ accepted l q e = go (eqb (length l) recordSize) (blank (part 3 8 l)) refl refl
         record { whole = w; zeros = z; fits = ap judged (sym (t .1)) ∙ t .0; fields = t .1 }
 
 -- ---- read, then write
-first-three : (l : List ℕ) → 3 ≤ length l → l ≡ getD l 0 0 ∷ getD l 1 0 ∷ getD l 2 0 ∷ drop 3 l
+first-three : (l : List ℕ) → zerosAt ≤ length l → l ≡ getD l 0 0 ∷ getD l 1 0 ∷ getD l 2 0 ∷ drop zerosAt l
 first-three [] h = absurd (omega arith)
 first-three (a ∷ []) h = absurd (omega arith)
 first-three (a ∷ b ∷ []) h = absurd (omega arith)
@@ -65,23 +65,24 @@ first-three (a ∷ b ∷ c ∷ l) h = refl
 
 module _ (l : List ℕ) (bytes : Bytes l) (whole : length l ≡ recordSize) where
   -- the last eight bytes are the digits of the value
-  value-bytes : lowBytes 8 (number (part 8 16 l)) ≡ drop 8 l
+  value-bytes : lowBytes 8 (number (part valueAt recordSize l)) ≡ drop valueAt l
   value-bytes =
-      let eight : length (drop 8 l) ≡ 8 = length-drop 8 l ∙ (let e : length l - 8 ≡ 8 = omega arith in e) in
-      ap (λ (bs : List ℕ). lowBytes 8 (number bs)) (take-all 8 (drop 8 l) (omega arith))
-      ∙ ap (λ (n : ℕ). lowBytes n (number (drop 8 l))) (sym eight)
-      ∙ lowBytes-number (drop 8 l) (bytes-drop 8 l bytes)
+      let eight : length (drop valueAt l) ≡ 8 = length-drop valueAt l ∙ (let e : length l - valueAt ≡ 8 = omega arith in e) in
+      ap (λ (bs : List ℕ). lowBytes 8 (number bs)) (take-all 8 (drop valueAt l) (omega arith))
+      ∙ ap (λ (n : ℕ). lowBytes n (number (drop valueAt l))) (sym eight)
+      ∙ lowBytes-number (drop valueAt l) (bytes-drop valueAt l bytes)
 
   -- bytes 3 to 7, and those after them
-  middle : blank (part 3 8 l) ≡ true → drop 3 l ≡ (0 ∷ 0 ∷ 0 ∷ 0 ∷ 0 ∷ []) ++ drop 8 l
+  middle : blank (part zerosAt valueAt l) ≡ true → drop zerosAt l ≡ (0 ∷ 0 ∷ 0 ∷ 0 ∷ 0 ∷ []) ++ drop valueAt l
   middle z =
-      let five = mid-len 3 8 l (omega arith) in
-      let zeros : part 3 8 l ≡ 0 ∷ 0 ∷ 0 ∷ 0 ∷ 0 ∷ [] = zeros-are (part 3 8 l) z ∙ ap (λ (n : ℕ). replicate n 0) five in
-      sym (take-append-drop 5 (drop 3 l))
-      ∙ ap (λ (r : List ℕ). part 3 8 l ++ r) (drop-drop 5 3 l)
-      ∙ ap (λ (r : List ℕ). r ++ drop 8 l) zeros
+      let five = mid-len zerosAt valueAt l (omega arith) in
+      let zeros : part zerosAt valueAt l ≡ 0 ∷ 0 ∷ 0 ∷ 0 ∷ 0 ∷ [] =
+      zeros-are (part zerosAt valueAt l) z ∙ ap (λ (n : ℕ). replicate n 0) five in
+      sym (take-append-drop (valueAt - zerosAt) (drop zerosAt l))
+      ∙ ap (λ (r : List ℕ). part zerosAt valueAt l ++ r) (drop-drop (valueAt - zerosAt) zerosAt l)
+      ∙ ap (λ (r : List ℕ). r ++ drop valueAt l) zeros
 
-  pub bytes-fields : blank (part 3 8 l) ≡ true → bytesOf (fieldsOf l) ≡ l
+  pub bytes-fields : blank (part zerosAt valueAt l) ≡ true → bytesOf (fieldsOf l) ≡ l
   unfolding bytesOf recordOf
   bytes-fields z =
       ap (λ (r : List ℕ). (getD l 0 0 ∷ getD l 1 0 ∷ getD l 2 0 ∷ 0 ∷ 0 ∷ 0 ∷ 0 ∷ 0 ∷ []) ++ r) value-bytes
@@ -100,26 +101,27 @@ length-taken n l = simp length-take (omega arith)
 -- the fields of bytes are as wide as the code holds them
 pub in-range : (l : List ℕ) → Bytes l → InRange (fieldsOf l)
 in-range l bytes =
-    record {
-      step = bytes 0;
-      bucket = bytes 1;
-      clean = bytes 2;
-      value = number-below 8 (part 8 16 l) (length-taken 8 (drop 8 l)) (bytes-take 8 (drop 8 l) (bytes-drop 8 l bytes));
-    }
+    let last = drop valueAt l in
+    let eight = bytes-take 8 last (bytes-drop valueAt l bytes) in
+    record { step = bytes 0; bucket = bytes 1; clean = bytes 2; value = number-below 8 (take 8 last) (length-taken 8 last) eight }
 
 pub accepts-written : (l : List ℕ) → Bytes l
-    → ((q : Request) × (readOf l ≡ Reading.Request q)) ↔ ((q : Request) × (judged q ≡ Verdict.Passed) × InRange q × (bytesOf q ≡ l))
+    → ((q : Request) × (readOf l ≡ Reading.Request q))
+    ↔ ((q : Request) × (judged q ≡ Verdict.Passed) × InRange q × (bytesOf q ≡ l))
 accepts-written l bytes = (there, back)
   where
-    there : (q : Request) × (readOf l ≡ Reading.Request q) → (q : Request) × (judged q ≡ Verdict.Passed) × InRange q × (bytesOf q ≡ l)
+    there : (q : Request) × (readOf l ≡ Reading.Request q)
+        → (q : Request) × (judged q ≡ Verdict.Passed) × InRange q × (bytesOf q ≡ l)
     there t =
         let a = accepted l (t .0) (t .1) in
         (t .0, a .fits, rw (← a .fields) (in-range l bytes), read-write l (t .0) bytes (t .1))
 
-    back : (q : Request) × (judged q ≡ Verdict.Passed) × InRange q × (bytesOf q ≡ l) → (q : Request) × (readOf l ≡ Reading.Request q)
+    back : (q : Request) × (judged q ≡ Verdict.Passed) × InRange q × (bytesOf q ≡ l)
+        → (q : Request) × (readOf l ≡ Reading.Request q)
     back t = (t .0, rw (← t .3) (write-read (t .0) (t .1) (t .2 .value)))
 
 -- ---- document 01's sample: step 22 at bucket 1 with value 5
+-- nothing rests on it: it shows that the definitions have the places and the order of bytes that the document means
 abbrev sample-request : Request
 sample-request = record { step = 22; bucket = record { 0 = 1 }; clean = 0; value = 5 }
 

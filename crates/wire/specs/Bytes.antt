@@ -1,11 +1,25 @@
 -- Numbers as bytes, low byte first, and the one form that a request and an answer share: sixteen bytes, of which the first
 -- three are small numbers, five are zero, and eight are a value.
-use Prim.Native.Nat.{ℕ, zero, suc, _+_, _-_, _*_, _/_, _%_}
+use Prim.Native.Nat.{ℕ, zero, suc, _+_, _-_, _*_, _/_, _%_, _^_}
 use mathlib.Core.Bool.{Bool, true, _&&_}
 use mathlib.Core.List.{List, [], _∷_, _++_}
 use lib.Dec.{eqb}
 use lib.ListN.{take, drop}
 
+-- ---- the places of a record
+-- where its five zeros begin
+abbrev pub zerosAt : ℕ
+zerosAt = 3
+
+-- where its value begins
+abbrev pub valueAt : ℕ
+valueAt = 8
+
+-- what a value is below: it is eight bytes
+abbrev pub valueLimit : ℕ
+valueLimit = 256 ^ 8
+
+-- ---- numbers and bytes
 -- the number that the bytes say
 abbrev pub number : List ℕ → ℕ
 number [] = 0

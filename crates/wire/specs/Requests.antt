@@ -1,5 +1,5 @@
 -- A request as sixteen bytes, and what reading and writing one answer.
-use Prim.Native.Nat.{ℕ, _<_, _^_}
+use Prim.Native.Nat.{ℕ, _<_}
 use mathlib.Core.Bool.{Bool, cond, _&&_}
 use mathlib.Core.List.{List, [], _∷_, _++_}
 use lib.Dec.{eqb, ltb}
@@ -12,7 +12,7 @@ use Rattle.steps.specs.declared.Verdict.{Verdict}
 use Rattle.steps.specs.Answers.{refusalNumber}
 use Rattle.steps.specs.Premises.{verdict}
 use Rattle.steps.specs.Requests.{isStep, fieldsFit, bucketFits, formal}
-use Rattle.wire.specs.Bytes.{number, blank, part, recordOf}
+use Rattle.wire.specs.Bytes.{zerosAt, valueAt, valueLimit, number, blank, part, recordOf}
 use Rattle.wire.specs.Buffers.{room, answerFor, leaves}
 use Rattle.wire.specs.declared.Reading.{Reading}
 
@@ -25,20 +25,25 @@ pub record InRange (q : Request) : Type 0 where
   pub step : q .step < 256
   pub bucket : q .bucket .0 < 256
   pub clean : q .clean < 256
-  pub value : q .value < 256 ^ 8
+  pub value : q .value < valueLimit
 
 -- ---- reading
 -- the fields at their places
 abbrev pub fieldsOf : List ℕ → Request
 fieldsOf l =
-    record { step = getD l 0 0; bucket = record { 0 = getD l 1 0 }; clean = getD l 2 0; value = number (part 8 16 l) }
+    record {
+      step = getD l 0 0;
+      bucket = record { 0 = getD l 1 0 };
+      clean = getD l 2 0;
+      value = number (part valueAt recordSize l);
+    }
 
 -- what is asked of the bytes: 12 first, then 2 to 4
 abbrev pub readable : List ℕ → List (Refusal × Bool)
 readable l =
     (Refusal.NotWhole, eqb (length l) recordSize)
     ∷ (Refusal.UnknownStep, isStep (fieldsOf l .step))
-    ∷ (Refusal.BadField, fieldsFit (fieldsOf l) && blank (part 3 8 l))
+    ∷ (Refusal.BadField, fieldsFit (fieldsOf l) && blank (part zerosAt valueAt l))
     ∷ (Refusal.BadBucket, bucketFits (fieldsOf l))
     ∷ []
 

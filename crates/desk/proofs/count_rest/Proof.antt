@@ -3,11 +3,12 @@
 use Prim.Native.Nat.{_+_, _*_, _≤_}
 use borrow.Author.Needs.{needs}
 use Rattle.replay.specs.Reply.{longest}
+use Rattle.desk.specs.Limits.{more}
 use Rattle.desk.proofs.count_rest.Statement.{statement}
 use Rattle.desk.proofs.count_rest.Tie as tie
 
 abbrev Inv-loop : tie.InvT-loop
-Inv-loop counted₀ left₀ counted left = counted + left * longest ≤ 31 * longest
+Inv-loop counted₀ left₀ counted left = counted + left * longest ≤ more * longest
 
 abbrev μ-loop : tie.MeasureT-loop
 μ-loop counted₀ left₀ counted left = left

@@ -16,11 +16,19 @@ judge-run-spec =
     (λ c. simp (sym (c .before .is-sound .ensures) ∙ not-true _ (c .if1 .taken)))
     (λ c. simp (sym (c .before .before .is-sound .ensures) ∙ not-false _ (c .before .if1 .left), ne-eqb _ _ (c .if2 .taken)))
     (λ c.
-    let s = c .before .before in
-    simp (sym (s .before .is-sound .ensures) ∙ not-false _ (s .if1 .left), eq-eqb _ _ (c .before .if2 .left), lt-leb _ _ (c .if3 .taken)))
+    let w = c .before in
+    let s = w .before in
+    let sound = sym (s .before .is-sound .ensures) ∙ not-false _ (s .if1 .left) in
+    simp (sound, eq-eqb _ _ (w .if2 .left), lt-leb _ _ (c .if3 .taken)))
     (λ c.
-    let s = c .before .before .before in
-    simp (sym (s .before .is-sound .ensures) ∙ not-false _ (s .if1 .left), eq-eqb _ _ (c .before .before .if2 .left), le-leb _ _ (c .before .if3 .left), lt-leb _ _ (c .if4 .taken)))
+    let f = c .before in
+    let w = f .before in
+    let s = w .before in
+    let sound = sym (s .before .is-sound .ensures) ∙ not-false _ (s .if1 .left) in
+    simp (sound, eq-eqb _ _ (w .if2 .left), le-leb _ _ (f .if3 .left), lt-leb _ _ (c .if4 .taken)))
     (λ c.
-    let s = c .before .before .before in
-    simp (sym (s .before .is-sound .ensures) ∙ not-false _ (s .if1 .left), eq-eqb _ _ (c .before .before .if2 .left), le-leb _ _ (c .before .if3 .left), le-leb _ _ (c .if4 .left))))
+    let f = c .before in
+    let w = f .before in
+    let s = w .before in
+    let sound = sym (s .before .is-sound .ensures) ∙ not-false _ (s .if1 .left) in
+    simp (sound, eq-eqb _ _ (w .if2 .left), le-leb _ _ (f .if3 .left), le-leb _ _ (c .if4 .left))))

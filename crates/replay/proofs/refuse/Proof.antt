@@ -14,7 +14,8 @@ refuse-spec =
     (tie.spec
     (λ c.
     let a = c .before .before .args in
-    simp (lt-leb _ _ (c .if1 .taken)) (refl, sym (put-short (lineOf (Answer.Refused (a .why))) (a .out .now) (c .if1 .taken) .1)))
+    let short = put-short (lineOf (Answer.Refused (a .why))) (a .out .now) (c .if1 .taken) in
+    simp (lt-leb _ _ (c .if1 .taken)) (refl, sym (short .1)))
     (λ c κs. tt)
     (λ c. search needs)
     (λ c. simp (le-leb _ _ (c .before .before .before .before .if1 .left)) (refl, c .before .before .write-answer .ensures .1)))

@@ -12,7 +12,8 @@ use Rattle.replay.proofs.run.Statement.{statement}
 use Rattle.replay.proofs.run.Tie as tie
 
 abbrev Inv-loop : tie.InvT-loop
-Inv-loop requests answers₀ current₀ left₀ at₀ answers current left at = Going requests answers₀ current₀ left₀ answers current left at
+Inv-loop requests answers₀ current₀ left₀ at₀ answers current left at =
+    Going requests answers₀ current₀ left₀ answers current left at
 
 abbrev μ-loop : tie.MeasureT-loop
 μ-loop requests answers₀ current₀ left₀ at₀ answers current left at = left
@@ -30,7 +31,9 @@ loop-again : tie.Need-loop-again Inv-loop μ-loop
 loop-again c =
     let p = c .before .before .before in
     let t = p .before .before in
-    going (t .before .before .before .loop .inv) (t .turn .result) (p .write-answer .last .1 .0) (t .before .before .loop-test .taken) (t .turn .ensures) (p .write-answer .ensures .1)
+    let l = t .before .before in
+    let w = p .write-answer in
+    going (l .before .loop .inv) (t .turn .result) (w .last .1 .0) (l .loop-test .taken) (t .turn .ensures) (w .ensures .1)
 
 returns-2 : tie.Need-returns-2 Inv-loop μ-loop
 unfolding ranOf answersOf

@@ -1,6 +1,6 @@
 -- `steps::decide` meets its contract: the list of the steps has at each number the step that its arm calls, and nothing past
--- 24. Assumes nothing.
-use Prim.Native.Nat.{ℕ, _≤_}
+-- the last of them. Assumes nothing.
+use Prim.Native.Nat.{ℕ, suc, _≤_}
 use mathlib.Core.Bool.{Bool}
 use mathlib.Core.Path.{_≡_, _∙_, ap, sym}
 use lib.ListN.{getD, List·getD-eq-default}
@@ -9,6 +9,7 @@ use Rattle.page_record.specs.declared.Head.{Head}
 use Rattle.steps.specs.declared.Refusal.{Refusal}
 use Rattle.steps.specs.declared.Request.{Request}
 use Rattle.steps.specs.Premises.{refused, decided}
+use Rattle.steps.specs.Requests.{lastStep}
 use Rattle.steps.specs.Decide.{decideOf, steps, unknown}
 use Rattle.steps.proofs.Numbers.{past}
 use Rattle.steps.proofs.decide.Statement.{statement}
@@ -20,9 +21,9 @@ named : (h : Head) (q : Request) (found : Found) (full : Bool) (n : ℕ)
 unfolding decideOf
 named h q found full n e = ap (λ (k : ℕ). decided h (getD (steps h q found full) k (unknown h))) e
 
--- no step has a number past 24
+-- no step has a number past the last
 nameless : (h : Head) (q : Request) (found : Found) (full : Bool)
-    → 25 ≤ q .step → decideOf h q found full ≡ refused h Refusal.UnknownStep
+    → suc lastStep ≤ q .step → decideOf h q found full ≡ refused h Refusal.UnknownStep
 unfolding decideOf
 nameless h q found full e = ap (decided h) (List·getD-eq-default (steps h q found full) (unknown h) e)
 
@@ -81,4 +82,4 @@ decide-spec =
     (λ c. c .shared-dec-count-obtained .ensures ∙ sym (named _ _ _ _ 22 (c .before .match .keys23)))
     (λ c. c .shared-check-exc .ensures ∙ sym (named _ _ _ _ 23 (c .before .match .keys24)))
     (λ c. c .shared-check-loading .ensures ∙ sym (named _ _ _ _ 24 (c .before .match .keys25)))
-    (λ c. c .refuse2 .ensures ∙ sym (nameless _ _ _ _ (past 25 _ (c .before .match .rest)))))
+    (λ c. c .refuse2 .ensures ∙ sym (nameless _ _ _ _ (past (suc lastStep) _ (c .before .match .rest)))))

@@ -1,11 +1,13 @@
 -- `steps::sought_by` meets its contract: the list of those that are sought has somebody at 4 and at 20 to 24 alone. Assumes
 -- nothing.
+use Prim.Native.Nat.{suc}
 use mathlib.Core.List.{[], _∷_}
 use mathlib.Core.Path.{_∙_, sym}
 use lib.ListN.{replicate}
 use Rattle.kinds.specs.declared.Phase.{Phase}
 use Rattle.steps.specs.declared.Sought.{Sought}
 use Rattle.steps.specs.Steps.{reader}
+use Rattle.steps.specs.Requests.{lastStep}
 use Rattle.steps.specs.Decide.{soughtOf}
 use Rattle.steps.proofs.Numbers.{elsewhere, every-same}
 use Rattle.steps.proofs.sought_by.Statement.{statement}
@@ -27,7 +29,8 @@ sought-by-spec =
     let pending = Sought.One (reader Phase.Pending (q .bucket)) in
     let pending2 = Sought.One (reader Phase.Pending2 (q .bucket)) in
     let obtained = Sought.One (reader (Phase.Obtained (q .value)) (q .bucket)) in
-    let somebody = (24, pending2) ∷ (23, pending) ∷ (22, obtained) ∷ (21, pending2) ∷ (20, pending) ∷ (4, obtained) ∷ [] in
+    let leaving = (22, obtained) ∷ (21, pending2) ∷ (20, pending) ∷ (4, obtained) ∷ [] in
+    let somebody = (24, pending2) ∷ (23, pending) ∷ leaving in
     sym
-    (elsewhere (replicate 25 Sought.Nobody) somebody (q .step) Sought.Nobody (c .match .rest)
-    ∙ every-same 25 (q .step) Sought.Nobody)))
+    (elsewhere (replicate (suc lastStep) Sought.Nobody) somebody (q .step) Sought.Nobody (c .match .rest)
+    ∙ every-same (suc lastStep) (q .step) Sought.Nobody)))

@@ -30,10 +30,14 @@ put-spec =
     (λ c. let a = c .before .before .args in omega (arith, stored-length (a .first) (a .second) (a .third) (a .buffer .now)))
     (λ c κs. tt)
     (λ c.
-    let a = c .before .before .before .before .before .before .args in
-    put-length (a .first) (a .second) (a .third) (a .buffer .now) (a .value) (omega arith) (c .before .before .write-u64 .last .0) (c .before .before .write-u64 .ensures))
+    let w = c .before .before in
+    let a = w .before .before .before .before .args in
+    let d = w .write-u64 in
+    put-length (a .first) (a .second) (a .third) (a .buffer .now) (a .value) (omega arith) (d .last .0) (d .ensures))
     (λ c.
-    let a = c .before .before .before .before .before .before .args in
+    let w = c .before .before in
+    let a = w .before .before .before .before .args in
+    let d = w .write-u64 in
     let h : recordSize ≤ length (a .buffer .now) = omega arith in
-    let stands = put-record (a .first) (a .second) (a .third) (a .buffer .now) (a .value) h (c .before .before .write-u64 .last .0) (c .before .before .write-u64 .ensures) in
+    let stands = put-record (a .first) (a .second) (a .third) (a .buffer .now) (a .value) h (d .last .0) (d .ensures) in
     simp (le-leb _ _ h) (refl, stands)))

@@ -11,7 +11,7 @@ use lib.ListN.{getD, drop}
 use lib.Seq.{take-take}
 use Rattle.steps.specs.declared.Request.{Request}
 use Rattle.steps.specs.Requests.{judged}
-use Rattle.wire.specs.Bytes.{number, blank, part}
+use Rattle.wire.specs.Bytes.{zerosAt, valueAt, number, blank, part}
 use Rattle.wire.specs.Requests.{fieldsOf, readingOf, orBadField}
 use Rattle.wire.specs.declared.Reading.{Reading}
 use Rattle.wire.proofs.Premises.{read-ragged, read-fields, read-marked}
@@ -31,16 +31,16 @@ holding l v = record { step = getD l 0 0; bucket = record { 0 = getD l 1 0 }; cl
 
 -- the value at its place is eight bytes long, and all of it is read
 value-is : (c : tie.After-read-u64) → c .read-u64 .result ≡ fieldsOf (lent c) .value
-value-is c = c .read-u64 .ensures ∙ ap number (take-take 8 8 (drop 8 (lent c)) (omega arith))
+value-is c = c .read-u64 .ensures ∙ ap number (take-take 8 8 (drop valueAt (lent c)) (omega arith))
 
 judged-is : (c : tie.After-judge) → c .judge .result ≡ judged (fieldsOf (read c))
 judged-is c = c .judge .ensures ∙ ap (λ (v : ℕ). judged (holding (read c) v)) (value-is (c .before))
 
 -- what the second test finds
-marked : (c : tie.Then2) → blank (part 3 8 (read (c .before .before .before))) ≡ false
+marked : (c : tie.Then2) → blank (part zerosAt valueAt (read (c .before .before .before))) ≡ false
 marked c = sym (c .before .is-blank .ensures) ∙ not-true (c .before .is-blank .result) (c .if2 .taken)
 
-zeros : (c : tie.Else2) → blank (part 3 8 (read (c .before .before .before))) ≡ true
+zeros : (c : tie.Else2) → blank (part zerosAt valueAt (read (c .before .before .before))) ≡ true
 zeros c = sym (c .before .is-blank .ensures) ∙ not-false (c .before .is-blank .result) (c .if2 .left)
 
 pub read-spec : {M : Type 1} → statement M
@@ -63,7 +63,8 @@ read-spec =
     (λ c κs. tt)
     (λ c.
     let p = c .before .before .before .before in
-    ap Reading.Refused (c .or-bad-field .ensures ∙ ap orBadField (judged-is p)) ∙ read-marked (read p) (omega arith) (marked (c .before)))
+    ap Reading.Refused (c .or-bad-field .ensures ∙ ap orBadField (judged-is p))
+    ∙ read-marked (read p) (omega arith) (marked (c .before)))
     (λ c. search needs)
     (λ c. search needs)
     (λ c.

@@ -12,13 +12,16 @@ write-spec =
     (λ c κs. tt)
     (λ c. search needs)
     (λ c.
-    let a = c .before .before .before .before .before .args in
-    write-refused (a .request) (a .buffer .now) _ (sym (c .before .before .before .judge .ensures) ∙ c .before .verdict .given .1))
+    let p = c .before .before .before in
+    let a = p .before .before .args in
+    write-refused (a .request) (a .buffer .now) _ (sym (p .judge .ensures) ∙ c .before .verdict .given .1))
     (λ c. search needs)
     (λ c κs. tt)
     (λ c. search needs)
     (λ c.
-    let p = c .before .before .before .before .before in
-    let a = p .before .before .before .before .args in
+    let t = c .before .before .before .before .before in
+    let p = t .before .before in
+    let a = p .before .before .args in
+    let fits = sym (p .judge .ensures) ∙ t .enum-told .given .1 in
     let d = c .before .before .put in
-    write-granted (a .request) (a .buffer .now) (d .result) (d .last .0) (sym (p .before .before .judge .ensures) ∙ p .enum-told .given .1) (d .ensures .0) (d .ensures .1)))
+    write-granted (a .request) (a .buffer .now) (d .result) (d .last .0) fits (d .ensures .0) (d .ensures .1)))

@@ -25,10 +25,12 @@ shared-to-claim-spec =
     (λ c κs. tt)
     (λ c κs. tt)
     (λ c.
+    let f = c .before .before .before .before in
+    let t = f .before .before in
     simp (
       c .accept .ensures,
       c .before .with-exc .ensures,
       c .before .before .claimed .ensures,
-      c .before .before .before .before .found .given .1,
-      granted (c .before .before .before .before .before .before .before .claimable .ensures) (c .before .before .before .before .before .before .if1 .left),
+      f .found .given .1,
+      granted (t .before .claimable .ensures) (t .if1 .left),
     )))

@@ -19,20 +19,28 @@ take-exc-lock-check-ref-count-spec =
     (λ c κs. tt)
     (λ c κs. tt)
     (λ c.
+    let t = c .before in
+    let r = t .before in
+    let n = r .before in
+    let v = n .before in
     simp (
       c .refuse3 .ensures,
-      ne-eqb _ _ (simp (c .before .before .ref-at .ensures, c .before .before .before .number-at .ensures) at (c .before .if2 .taken)),
-      lt-ltb _ _ (c .before .before .before .before .if1 .left),
-      c .before .before .before .before .before .before .exc .given .1,
+      ne-eqb _ _ (simp (r .ref-at .ensures, n .number-at .ensures) at (t .if2 .taken)),
+      lt-ltb _ _ (v .if1 .left),
+      v .before .before .exc .given .1,
     ))
     (λ c. search needs)
     (λ c κs. tt)
     (λ c κs. tt)
     (λ c.
+    let t = c .before .before in
+    let r = t .before in
+    let n = r .before in
+    let v = n .before in
     simp (
       c .accept .ensures,
       c .before .with-exc .ensures,
-      eq-eqb _ _ (simp (c .before .before .before .ref-at .ensures, c .before .before .before .before .number-at .ensures) at (c .before .before .if2 .left)),
-      lt-ltb _ _ (c .before .before .before .before .before .if1 .left),
-      c .before .before .before .before .before .before .before .exc .given .1,
+      eq-eqb _ _ (simp (r .ref-at .ensures, n .number-at .ensures) at (t .if2 .left)),
+      lt-ltb _ _ (v .if1 .left),
+      v .before .before .exc .given .1,
     )))

@@ -25,10 +25,12 @@ take-exc-lock-finish-writeback-spec =
     (λ c κs. tt)
     (λ c κs. tt)
     (λ c.
+    let e = c .before .before .before .before in
+    let t = e .before .before in
     simp (
       c .accept .ensures,
       c .before .with-exc .ensures,
       c .before .before .lock-flag .ensures,
-      c .before .before .before .before .exc .given .1,
-      granted (c .before .before .before .before .before .before .before .writeback-done .ensures) (c .before .before .before .before .before .before .if1 .left),
+      e .exc .given .1,
+      granted (t .before .writeback-done .ensures) (t .if1 .left),
     )))

@@ -13,8 +13,12 @@ takes-bucket-spec =
     (λ c. simp (c .match .keys2))
     (λ c.
     let other = c .before .before .match .rest in
-    simp (ne-eqb _ _ (other .0 .1), ne-eqb _ _ (other .1), le-leb _ _ (c .before .if1 .left), le-leb _ 24 (le-of-suc-le-suc (c .if2 .taken))))
-    (λ c. let other = c .before .match .rest in simp (ne-eqb _ _ (other .0 .1), ne-eqb _ _ (other .1), lt-leb _ _ (c .if1 .taken)))
+    let low = c .before .if1 .left in
+    let high = le-of-suc-le-suc (c .if2 .taken) in
+    simp (ne-eqb _ _ (other .0 .1), ne-eqb _ _ (other .1), le-leb _ _ low, le-leb _ 24 high))
+    (λ c.
+    let other = c .before .match .rest in
+    simp (ne-eqb _ _ (other .0 .1), ne-eqb _ _ (other .1), lt-leb _ _ (c .if1 .taken)))
     (λ c.
     let other = c .before .before .match .rest in
     simp (ne-eqb _ _ (other .0 .1), ne-eqb _ _ (other .1), le-leb _ _ (c .before .if1 .left), lt-leb _ 24 (c .if2 .left))))

@@ -1,9 +1,10 @@
--- `steps::setters::number_at` meets its contract: a number that is no bucket is past the four counts. Assumes nothing.
+-- `steps::setters::number_at` meets its contract: a number that is no bucket is past the counts. Assumes nothing.
 use Prim.Native.Nat.{_≤_}
 use mathlib.Core.Path.{_≡_}
 use native.Mathlib.Omega.{arith}
 use borrow.Author.Needs.{needs}
 use lib.ListN.{length, length-map, List·getD-eq-default}
+use Rattle.kinds.specs.Limits.{buckets}
 use Rattle.steps.proofs.setters.number_at.Statement.{statement}
 use Rattle.steps.proofs.setters.number_at.Tie as tie
 
@@ -15,7 +16,8 @@ number-at-spec =
     (λ c. search needs)
     (λ c. search needs)
     (λ c.
-    let args = c .before .before .args in
-    let four : length (args .h .«ref_counts») ≡ 4 = simp length-map at (c .before .before .good .0 .1 .1 .1 .1 .0 .1 .0 .1) in
+    let b = c .before .before in
+    let args = b .args in
+    let wide : length (args .h .«ref_counts») ≡ buckets = simp length-map at (b .good .0 .1 .1 .1 .1 .0 .1 .0 .1) in
     let past : length (args .h .«ref_counts») ≤ args .bucket .0 = omega arith in
     rw (List·getD-eq-default (args .h .«ref_counts») (record { 0 = 0 }) past)))

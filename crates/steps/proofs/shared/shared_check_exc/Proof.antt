@@ -23,8 +23,10 @@ shared-check-exc-spec =
     ))
     (λ c κs. tt)
     (λ c.
+    let f = c .before .before in
+    let t = f .before .before in
     simp (
       c .accept .ensures,
-      c .before .before .found .given .1,
-      granted (c .before .before .before .before .before .open-to-readers .ensures) (c .before .before .before .before .if1 .left),
+      f .found .given .1,
+      granted (t .before .open-to-readers .ensures) (t .if1 .left),
     )))

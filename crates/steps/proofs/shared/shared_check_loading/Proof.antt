@@ -24,9 +24,11 @@ shared-check-loading-spec =
     (λ c κs. tt)
     (λ c κs. tt)
     (λ c.
+    let f = c .before .before .before in
+    let t = f .before .before in
     simp (
       c .accept .ensures,
       c .before .value-of .ensures,
-      c .before .before .before .found .given .1,
-      granted (c .before .before .before .before .before .before .not-loading .ensures) (c .before .before .before .before .before .if1 .left),
+      f .found .given .1,
+      granted (t .before .not-loading .ensures) (t .if1 .left),
     )))

@@ -1,12 +1,12 @@
 -- `wire::numbers::is_blank` meets its contract: the bytes are all zero exactly when those from k on are. Assumes nothing.
-use Prim.Native.Nat.{_≤_, _<_, _-_}
+use Prim.Native.Nat.{ℕ, _≤_, _<_, _-_}
 use mathlib.Core.Path.{_≡_, refl, ap, _∙_, sym}
 use native.Mathlib.Omega.{arith}
 use borrow.Author.Needs.{needs}
 use borrow.Author.Tests.{eq-eqb, ne-eqb}
 use lib.ListN.{length, drop, drop-of-length-le}
+use Rattle.readers.proofs.Turns.{next}
 use Rattle.wire.specs.Bytes.{blank}
-use Rattle.wire.proofs.Bytes.{next}
 use Rattle.wire.proofs.numbers.is_blank.Statement.{statement}
 use Rattle.wire.proofs.numbers.is_blank.Tie as tie
 
@@ -20,13 +20,13 @@ returns : tie.Need-returns Inv-loop μ-loop
 returns c =
     let l = c .before .before .before .loop in
     let h : l .k < length (c .before .before .before .before .args .bytes .now) = omega arith in
-    sym (l .inv .1 ∙ simp (next, ne-eqb _ _ (c .if1 .taken)))
+    sym (l .inv .1 ∙ simp (next {A = ℕ} 0, ne-eqb _ _ (c .if1 .taken)))
 
 loop-again : tie.Need-loop-again Inv-loop μ-loop
 loop-again c =
     let l = c .before .before .before .loop in
     let h : l .k < length (c .before .before .before .before .args .bytes .now) = omega arith in
-    (omega arith, l .inv .1 ∙ simp (next, eq-eqb _ _ (c .if1 .left)))
+    (omega arith, l .inv .1 ∙ simp (next {A = ℕ} 0, eq-eqb _ _ (c .if1 .left)))
 
 returns-2 : tie.Need-returns-2 Inv-loop μ-loop
 returns-2 c =

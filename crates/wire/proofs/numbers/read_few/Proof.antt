@@ -5,8 +5,9 @@ use native.Mathlib.Omega.{arith}
 use borrow.Author.Needs.{needs}
 use lib.ListN.{length, drop, length-drop}
 use lib.Seq.{drop-length}
+use Rattle.readers.proofs.Turns.{next}
 use Rattle.wire.specs.Bytes.{number}
-use Rattle.wire.proofs.Bytes.{bytes-drop, number-below, next}
+use Rattle.wire.proofs.Bytes.{bytes-drop, number-below}
 use Rattle.wire.proofs.numbers.read_few.Statement.{statement}
 use Rattle.wire.proofs.numbers.read_few.Tie as tie
 
@@ -42,7 +43,7 @@ loop-again c =
     let s = c .before .before .before .args .bytes .now in
     let h : l .k - 1 < length s = omega arith in
     let e : l .k - 1 + 1 ≡ l .k = omega arith in
-    (omega arith, rw (next s (l .k - 1) h, e, ← l .inv .1))
+    (omega arith, rw (next 0 s (l .k - 1) h, e, ← l .inv .1))
 
 returns : tie.Need-returns Inv-loop μ-loop
 returns c =

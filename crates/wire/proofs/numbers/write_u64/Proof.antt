@@ -13,7 +13,9 @@ use Rattle.wire.proofs.numbers.write_u64.Tie as tie
 
 abbrev Inv-loop : tie.InvT-loop
 Inv-loop bytes₀ v x₀ k₀ bytes x k =
-    (k ≤ length bytes) × (length bytes ≡ length bytes₀) × (lowBytes (length bytes₀) v ≡ take k bytes ++ lowBytes (length bytes₀ - k) x)
+    (k ≤ length bytes)
+    × (length bytes ≡ length bytes₀)
+    × (lowBytes (length bytes₀) v ≡ take k bytes ++ lowBytes (length bytes₀ - k) x)
 
 abbrev μ-loop : tie.MeasureT-loop
 μ-loop bytes₀ v x₀ k₀ bytes x k = length bytes₀ - k
@@ -27,7 +29,8 @@ loop-again : tie.Need-loop-again Inv-loop μ-loop
 loop-again c =
     let l = c .before .loop in
     let n = length (c .before .before .args .bytes .now) in
-    (simp length-set (omega arith), simp length-set (l .inv .1), l .inv .2 ∙ stored (l .bytes) (l .k) (omega arith) n (l .x) (omega arith))
+    let digits = stored (l .bytes) (l .k) (omega arith) n (l .x) (omega arith) in
+    (simp length-set (omega arith), simp length-set (l .inv .1), l .inv .2 ∙ digits)
 
 returns : tie.Need-returns Inv-loop μ-loop
 returns c =
