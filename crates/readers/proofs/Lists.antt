@@ -15,7 +15,7 @@ use Rattle.readers.specs.Lists.{tally, every, without}
 use Rattle.readers.proofs.Tests.{both, halves}
 
 -- what one entry adds to a tally
-one-le : (t : Bool) → cond t 1 0 ≤ 1
+pub one-le : (t : Bool) → cond t 1 0 ≤ 1
 one-le true = omega arith
 one-le false = omega arith
 
@@ -93,6 +93,12 @@ module _ {A : Type 0} where
     every-at [] i d t h = absurd (omega arith)
     every-at (x ∷ l) zero d t h = halves (test x) (every test l) t .0
     every-at (x ∷ l) (suc i) d t h = every-at l i d (halves (test x) (every test l) t .1) (omega arith)
+
+    -- an entry that is read past the end is the default
+    pub every-default : (l : List A) (i : ℕ) (d : A) → T (every test l) → T (test d) → T (test (getD l i d))
+    every-default [] i d t u = u
+    every-default (x ∷ l) zero d t u = halves (test x) (every test l) t .0
+    every-default (x ∷ l) (suc i) d t u = every-default l i d (halves (test x) (every test l) t .1) u
 
     pub every-replicate : (n : ℕ) (x : A) → T (test x) → T (every test (replicate n x))
     every-replicate zero x t = tt
