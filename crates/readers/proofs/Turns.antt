@@ -1,20 +1,24 @@
 -- One turn of each loop of the crate, as laws over any element type and any list. In order: a look at one entry after the other
--- (`next`, `turn`, with the ends `past` and `past-all`); a count of those that pass a test (`Counting`); a gap that is closed
--- (`moved`, `stands`, with the end `closed-at`). Assumes nothing.
+-- (`next`, `turn`, with the ends `past` and `past-all`); a count of those that pass a test (`Counting`); whether all pass it
+-- (`Passing`); a gap that is closed (`moved`, `stands`, with the end `closed-at`). Assumes nothing.
 use Prim.Native.Nat.{ℕ, suc, _+_, _-_, _<_, _≤_, min}
-use mathlib.Core.Path.{_≡_}
+use mathlib.Core.Path.{_≡_, _∙_, sym}
 use mathlib.Core.Bool.{Bool, true, false}
 use mathlib.Core.List.{List, [], _∷_, _++_}
 use native.Mathlib.Omega.{arith}
 use native.Mathlib.Numerals.{add-one}
 use lib.ListN.{length, take, drop, getD, set, drop-of-length-le, length-take, length-drop}
 use lib.Seq.{drop-cons, getD-take, getD-drop, paste, paste-suc, drop-paste, length-paste-head, take-add, drop-at, length-take-le, take-take, set-at}
-use Rattle.readers.specs.Lists.{tally, without}
+use Rattle.readers.specs.Lists.{tally, every, without}
 
 -- n of the first i entries pass: with those that are left, that is the tally of an array's first `len`
 pub record Counting {A : Type 0} (test : A → Bool) (items : List A) (len n i : ℕ) : Type 0 where
   pub few : n ≤ i
   pub whole : n + tally test (drop i (take len items)) ≡ tally test (take len items)
+
+-- all pass just if those do that are left of an array's first `len`
+pub record Passing {A : Type 0} (test : A → Bool) (all items : List A) (len i : ℕ) : Type 0 where
+  pub whole : every test all ≡ every test (drop i (take len items))
 
 module _ {A : Type 0} where
   -- ---- one entry after the other: the entry at i, and then what is left after it
@@ -57,6 +61,19 @@ module _ {A : Type 0} where
       passed-over t =
           let e = simp (turn d, t) at (so-far .whole) in
           record { few = omega arith; whole = omega arith }
+
+  -- ---- whether all pass
+  module _ {test : A → Bool} {all items : List A} {len i : ℕ} (so-far : Passing test all items len i) where
+    -- none is left
+    pub all-pass : min len (length items) ≤ i → true ≡ every test all
+    all-pass h = sym (so-far .whole ∙ simp (spent items len i))
+
+    module _ (d : A) (h : i < len) (k : i < length items) where
+      pub one-fails : test (getD items i d) ≡ false → false ≡ every test all
+      one-fails t = sym (so-far .whole ∙ simp (turn d, t))
+
+      pub one-passes : test (getD items i d) ≡ true → Passing test all items len (i + 1)
+      one-passes t = record { whole = so-far .whole ∙ simp (turn d, t) }
 
   -- ---- a gap is closed: the later entries move down, one after the other
   module _ (old : List A) (at n : ℕ) (b : A) where
