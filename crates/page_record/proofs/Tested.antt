@@ -23,11 +23,10 @@ use Rattle.page_record.specs.declared.Head.{Head}
 use Rattle.page_record.specs.declared.Page.{Page}
 use Rattle.page_record.specs.Pages.{headOf, pageOf, numberAt}
 use Rattle.page_record.specs.References.{countAllRefs}
-use Rattle.page_record.specs.Rules.{everyBucket, refCountInvariant, sharedStateValid, countsWithin, holdersWithin, limitsKept, rules, soundOf}
+use Rattle.page_record.specs.Rules.{everyBucket, refCountInvariant, sharedStateValid, countsWithin, limitsKept, rules, soundOf}
 use Rattle.page_record.specs.Facts.{Sound, SoundPage}
-use Rattle.page_record.specs.Shapes.{Shape, unmapped, waiting, counted, loaded, available, claimed, writeback, writebackClaimed, writebackAwait, await, pending, editing, headAt, valid}
-use Rattle.page_record.proofs.Shapes.{by-shape, rules-of}
-use Rattle.page_record.proofs.Known.{valid-bucket}
+use Rattle.page_record.proofs.Shapes.{rules-of}
+use Rattle.page_record.proofs.Known.{valid-bucket, holders-within}
 use Rattle.page_record.proofs.Broken.{sound-all}
 
 eq→eqb : (m n : ℕ) → m ≡ n → T (eqb m n)
@@ -80,21 +79,6 @@ facts p t =
     }
 
 -- ---- and back
--- a holder's bucket is 0 to 3, and the visited number at most 4
-within-at : (z : Shape) (cs : List Count) → T (valid z) → T (holdersWithin (headAt z cs .«exc_state») (headAt z cs .«loading_state»))
-within-at (unmapped v) cs t = tt
-within-at waiting cs t = tt
-within-at (counted b) cs t = simp and-iff ((tt, t), tt)
-within-at (loaded m) cs t = simp and-iff ((tt, t), tt)
-within-at (available v) cs t = tt
-within-at (claimed m v) cs t = simp and-iff ((t, tt), tt)
-within-at (writeback v) cs t = tt
-within-at (writebackClaimed m v) cs t = simp and-iff ((t, tt), tt)
-within-at (writebackAwait m v) cs t = simp and-iff ((t, tt), tt)
-within-at (await m v) cs t = simp and-iff ((t, tt), tt)
-within-at (pending m n clean v) cs t = let u = simp and-iff at t in simp and-iff ((u .1, tt), u .0)
-within-at (editing m clean) cs t = simp and-iff ((t, tt), tt)
-
 module _ (h : Head) (l : List Reader) (s : Sound h l) where
   -- rule 5
   counts-tested : T (refCountInvariant (h .«ref_counts») (live (listed l)) (h .«exc_state») (h .«loading_state»))
@@ -110,14 +94,13 @@ module _ (h : Head) (l : List Reader) (s : Sound h l) where
   limits-tested : T (limitsKept h (listed l))
   limits-tested =
       let near : Reader → Bool = λ r. ltb (r .bucket .0) buckets in
-      let holders : T (holdersWithin (h .«exc_state») (h .«loading_state»)) =
-      by-shape (λ (x : Head). T (holdersWithin (x .«exc_state») (x .«loading_state»))) within-at h (s .head) in
+      let holders = simp and-iff at (holders-within s) in
       let readers : T (every near l) =
       every-mono (sharedStateValid h) near l (λ r t. lt→ltb (r .bucket .0) buckets (valid-bucket h r t)) (s .readers) in
       let short = le→leb (length l) capacity (s .room) in
       let whole = eq→eqb (length (listed l .items)) capacity (length-listed l (s .room)) in
       rw (live-listed l)
-      (simp and-iff ((of-few (h .«ref_counts») (s .few), simp and-iff at holders), (((short, whole), readers), blank-listed l)))
+      (simp and-iff ((of-few (h .«ref_counts») (s .few), holders), (((short, whole), readers), blank-listed l)))
 
   pub tested-parts : T (soundOf (pageOf h (listed l)))
   tested-parts =

@@ -1,12 +1,12 @@
 -- From the array to the list: what `listed l` holds (`live-listed`, `length-listed`, `blank-listed`); that a well kept array is
--- the array of its list (`listed-live`); and what each change does to `listed l` (`empty-listed`, `pushed-listed`, `put-listed`,
+-- the array of its list (`listed-live`); and what each change does to `listed l` (`pushed-listed`, `put-listed`,
 -- `removed-listed`). No law names the capacity's number. Assumes nothing.
 use Prim.Native.Nat.{ℕ, suc, _+_, _-_, _<_, _≤_}
 use mathlib.Core.Path.{_≡_, refl, sym, _∙_}
-use mathlib.Core.Bool.{true, false}
+use mathlib.Core.Bool.{true}
 use mathlib.Core.List.{List, [], _∷_, _++_}
 use native.Mathlib.Omega.{arith}
-use borrow.Author.Tests.{lt-ltb, le-leb, le-ltb}
+use borrow.Author.Tests.{lt-ltb, le-leb}
 use lib.Dec.{T}
 use lib.ListN.{length, drop, set, replicate, length-append, length-drop, length-set, length-replicate, take-append-drop}
 use lib.Seq.{take-append-seam, drop-append-seam, set-append-seam, set-append-left, append-snoc, length-take-le}
@@ -15,7 +15,7 @@ use Rattle.kinds.specs.declared.Reader.{Reader}
 use Rattle.readers.specs.declared.Readers.{Readers}
 use Rattle.readers.specs.Lists.{every, without}
 use Rattle.readers.specs.Same.{sameReader}
-use Rattle.readers.specs.Listed.{live, blankReader, listed, blankPast, noReaders, pushed, putAt, removedAt}
+use Rattle.readers.specs.Listed.{live, blankReader, listed, blankPast, pushed, putAt, removedAt}
 use Rattle.readers.proofs.Tests.{halves}
 use Rattle.readers.proofs.Lists.{length-without, every-replicate}
 use Rattle.readers.proofs.Equal.{same-refl, same-is}
@@ -50,10 +50,6 @@ module _ (rs : Readers) (full : length (rs .items) ≡ capacity) (fits : rs .len
       λ i. record { items = whole i; len = sym length-live i }
 
 -- ---- the changes
-pub empty-listed : noReaders ≡ listed []
-unfolding noReaders
-empty-listed = refl
-
 module _ (l : List Reader) (r : Reader) where
   pub pushed-listed : length l < capacity → pushed (listed l) r ≡ record { ok = true; readers = listed (l ++ r ∷ []) }
   unfolding pushed
@@ -61,11 +57,6 @@ module _ (l : List Reader) (r : Reader) where
       let e : length (l ++ r ∷ []) ≡ length l + 1 = length-append l (r ∷ []) in
       let f : capacity - length l ≡ suc (capacity - (length l + 1)) = omega arith in
       simp (lt-ltb _ _ h) (rw (e, f, set-append-seam, append-snoc))
-
-  -- no room: nothing changes
-  pub pushed-full : capacity ≤ length l → pushed (listed l) r ≡ record { ok = false; readers = listed l }
-  unfolding pushed
-  pushed-full h = simp (le-ltb _ _ h)
 
   pub put-listed : (at : ℕ) → length l ≤ capacity → at < length l → putAt (listed l) at r ≡ listed (set l at r)
   unfolding putAt

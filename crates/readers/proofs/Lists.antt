@@ -1,5 +1,5 @@
 -- Laws of `tally`, `every` and `without`, over any element type: what each says after the list grows, loses or changes an entry.
--- In order: `without` by recursion, at a seam, and its length; `every` of two lists and of parts, after each change, at an entry,
+-- In order: `without` at a seam, and its length; `every` of two lists and of parts, after each change, at an entry,
 -- and of two tests; `tally` of two lists, after each change, and what it says of the entries.
 -- `set` at a seam is `set-append-seam` of lib.Seq. Assumes nothing.
 use Prim.Native.Nat.{ℕ, zero, suc, _+_, _<_, _≤_}
@@ -27,23 +27,8 @@ none-is : (t : Bool) → _≡_ {A = ℕ} (cond t 1 0) 0 → T (not t)
 none-is true e = omega arith
 none-is false e = tt
 
--- n entries add n, or nothing
-copies : (t : Bool) (n : ℕ) → cond t 1 0 + cond t n 0 ≡ cond t (suc n) 0
-copies true n = omega arith
-copies false n = refl
-
-no-copies : (t : Bool) → _≡_ {A = ℕ} 0 (cond t 0 0)
-no-copies true = refl
-no-copies false = refl
-
 module _ {A : Type 0} where
   -- ---- without
-  pub without-zero : (x : A) (xs : List A) → without 0 (x ∷ xs) ≡ xs
-  without-zero x xs = refl
-
-  pub without-suc : (i : ℕ) (x : A) (xs : List A) → without (suc i) (x ∷ xs) ≡ x ∷ without i xs
-  without-suc i x xs = rw suc-add
-
   -- the entry at the seam goes
   pub without-split : (before : List A) (x : A) (after : List A) → without (length before) (before ++ x ∷ after) ≡ before ++ after
   without-split before x after = rw (take-append-seam, drop-append-add before (x ∷ after) 1)
@@ -152,7 +137,3 @@ module _ {A : Type 0} where
 
     pub tally-positive : (l : List A) (i : ℕ) (d : A) → i < length l → T (test (getD l i d)) → 1 ≤ tally test l
     tally-positive l i d h t = omega (arith, tally-without l i d h, one-is (test (getD l i d)) t)
-
-    pub tally-replicate : (n : ℕ) (x : A) → tally test (replicate n x) ≡ cond (test x) n 0
-    tally-replicate zero x = no-copies (test x)
-    tally-replicate (suc n) x = rw (tally-replicate n x) (copies (test x) n)
