@@ -1,16 +1,16 @@
 -- Laws of `tally`, `every` and `without`, over any element type: what each says after the list grows, loses or changes an entry.
--- In order: `without` at a seam, and its length; `every` of two lists and of parts, after each change, at an entry,
+-- In order: `without` at a seam, past the end, and its length; `every` of two lists and of parts, after each change, at an entry,
 -- and of two tests; `tally` of two lists, after each change, and what it says of the entries.
 -- `set` at a seam is `set-append-seam` of lib.Seq. Assumes nothing.
 use Prim.Native.Nat.{ℕ, zero, suc, _+_, _<_, _≤_}
 use mathlib.Core.Path.{_≡_, refl}
 use mathlib.Core.Bool.{Bool, true, false, cond, not, _&&_}
-use mathlib.Core.List.{List, [], _∷_, _++_}
+use mathlib.Core.List.{List, [], _∷_, _++_, append-nil}
 use native.Mathlib.Nat.{suc-add}
 use native.Mathlib.Omega.{arith}
 use lib.Dec.{T}
-use lib.ListN.{length, take, drop, getD, set, replicate, length-append, length-take, length-drop, take-append-drop}
-use lib.Seq.{take-append-seam, drop-append-add}
+use lib.ListN.{length, take, drop, getD, set, replicate, length-append, length-take, length-drop, take-append-drop, drop-of-length-le}
+use lib.Seq.{take-append-seam, drop-append-add, take-all}
 use Rattle.readers.specs.Lists.{tally, every, without}
 use Rattle.readers.proofs.Tests.{both, halves}
 
@@ -32,6 +32,12 @@ module _ {A : Type 0} where
   -- the entry at the seam goes
   pub without-split : (before : List A) (x : A) (after : List A) → without (length before) (before ++ x ∷ after) ≡ before ++ after
   without-split before x after = rw (take-append-seam, drop-append-add before (x ∷ after) 1)
+
+  -- past the end nothing goes
+  pub without-out : (l : List A) (i : ℕ) → length l ≤ i → without i l ≡ l
+  without-out l i h =
+      let past : length l ≤ i + 1 = omega arith in
+      rw (take-all i l, drop-of-length-le l {i = i + 1}, append-nil)
 
   pub length-without : (l : List A) (i : ℕ) → i < length l → length (without i l) + 1 ≡ length l
   length-without l i h = simp (length-append, length-take, length-drop) (omega arith)
