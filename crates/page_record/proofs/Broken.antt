@@ -46,7 +46,8 @@ from n [] r e = absurd (omega arith)
 from n (true ∷ ts) r e =
     let f = from (n + 1) ts r e in
     record { place = suc (f .place); counted = omega arith; first = later ts (f .place) (f .first) }
-from n (false ∷ ts) r e = record { place = 0; counted = omega arith; first = record { fails = refl; earlier = λ i h. absurd (omega arith) } }
+from n (false ∷ ts) r e =
+    record { place = 0; counted = omega arith; first = record { fails = refl; earlier = λ i h. absurd (omega arith) } }
 
 to : (n : ℕ) (ts : List Bool) (k : ℕ) → FirstFalse ts k → firstBroken n ts ≡ n + k
 to n [] k f = absurd (let z : _≡_ {A = ℕ} 0 1 = cc in omega arith)

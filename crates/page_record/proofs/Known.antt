@@ -45,21 +45,25 @@ not-before : (l : LoadingState) → T (noLoad l) → T (not (isBefore l))
 not-before l t = rw (no-load l t) tt
 
 -- it may hold v just if storage does, nobody loads, and it may be past the first check
-pub hold-iff : (h : Head) (b v : ℕ) → T (holding h b v) ↔ T (holds (h .storage) v) × T (noLoad (h .«loading_state»)) × T (passing h b)
+pub hold-iff : (h : Head) (b v : ℕ)
+    → T (holding h b v) ↔ T (holds (h .storage) v) × T (noLoad (h .«loading_state»)) × T (passing h b)
 hold-iff h b v = (
-  λ t. let u = simp and-iff at t in (u .0 .0 .0, u .0 .1, simp and-iff ((u .0 .0 .1, not-before (h .«loading_state») (u .0 .1)), u .1)),
+  λ t.
+      let u = simp and-iff at t in
+      (u .0 .0 .0, u .0 .1, simp and-iff ((u .0 .0 .1, not-before (h .«loading_state») (u .0 .1)), u .1)),
   λ t. let u = simp and-iff at (t .2) in simp and-iff (((t .0, u .0 .0), t .1), u .1),
 )
 
 -- a reader that keeps rule 7: its bucket, and what its phase asks
 module _ (h : Head) (r : Reader) (t : T (sharedStateValid h r)) where
+  parts : T (ltb (r .bucket .0) buckets) × T (phaseValid (r .phase) (passing h (r .bucket .0)) (holding h (r .bucket .0)))
+  parts = halves (ltb (r .bucket .0) buckets) (phaseValid (r .phase) (passing h (r .bucket .0)) (holding h (r .bucket .0))) t
+
   pub valid-bucket : r .bucket .0 < buckets
-  valid-bucket =
-      ltb→lt (r .bucket .0) buckets
-      (halves (ltb (r .bucket .0) buckets) (phaseValid (r .phase) (passing h (r .bucket .0)) (holding h (r .bucket .0))) t .0)
+  valid-bucket = ltb→lt (r .bucket .0) buckets (parts .0)
 
   pub valid-phase : T (phaseValid (r .phase) (passing h (r .bucket .0)) (holding h (r .bucket .0)))
-  valid-phase = halves (ltb (r .bucket .0) buckets) (phaseValid (r .phase) (passing h (r .bucket .0)) (holding h (r .bucket .0))) t .1
+  valid-phase = parts .1
 
 -- ---- flag, holders and storage
 -- the page is in storage, and this is its value
@@ -111,7 +115,8 @@ pub known : {h : Head} {l : List Reader} → Sound h l → Known h
 known {h} s = by-shape (λ (x : Head). Known x) known-at h (s .head)
 
 -- ---- a holder's bucket, and the number of buckets that an editor has visited
-within-at : (z : Shape) (cs : List Count) → T (valid z) → T (holdersWithin (headAt z cs .«exc_state») (headAt z cs .«loading_state»))
+within-at : (z : Shape) (cs : List Count) → T (valid z)
+    → T (holdersWithin (headAt z cs .«exc_state») (headAt z cs .«loading_state»))
 within-at (unmapped v) cs t = tt
 within-at waiting cs t = tt
 within-at (counted b) cs t = simp and-iff ((tt, t), tt)
@@ -153,8 +158,8 @@ closed-passing h b t k u = closed-lets (h .«exc_state») b t k ((simp and-iff a
 abbrev pub readerPending : Reader → Bool
 readerPending r = eqb (phaseNumber (r .phase)) 1
 
-shut-pending : (p : Phase) (pass : Bool) (hold : ℕ → Bool) → (T pass → ⊥) → ((v : ℕ) → T (hold v) → T pass) → T (phaseValid p pass hold)
-    → T (eqb (phaseNumber p) 1)
+shut-pending : (p : Phase) (pass : Bool) (hold : ℕ → Bool) → (T pass → ⊥) → ((v : ℕ) → T (hold v) → T pass)
+    → T (phaseValid p pass hold) → T (eqb (phaseNumber p) 1)
 shut-pending Phase.Pending pass hold shut past t = tt
 shut-pending Phase.Pending2 pass hold shut past t = absurd (shut t)
 shut-pending (Phase.Obtained v) pass hold shut past t = absurd (shut (past v t))
@@ -176,7 +181,8 @@ module _ {h : Head} {l : List Reader} (s : Sound h l) where
       omega (arith, s .counts b (valid-bucket h r (listed-valid i k)), tally-positive (isAt b) l i blankReader k (eqb-refl b))
 
   -- a listed Pending2 reader, and the flag is not Loading: the page is in (rules 1, 2, 6 and 7)
-  pub pending2-in : (i : ℕ) → i < length l → (getD l i blankReader) .phase ≡ Phase.Pending2 → T (notLoading (h .flag)) → Stored (h .storage)
+  pub pending2-in : (i : ℕ) → i < length l → (getD l i blankReader) .phase ≡ Phase.Pending2 → T (notLoading (h .flag))
+      → Stored (h .storage)
   pending2-in i k e t =
       let r = getD l i blankReader in
       let b = r .bucket .0 in
@@ -188,8 +194,8 @@ module _ {h : Head} {l : List Reader} (s : Sound h l) where
       every-mono (sharedStateValid h) readerPending l
       (λ r t.
       let b = r .bucket .0 in
-      shut-pending (r .phase) (passing h b) (holding h b) (closed-passing h b c (valid-bucket h r t)) (λ v u. hold-iff h b v .0 u .2)
-      (valid-phase h r t))
+      let shut = closed-passing h b c (valid-bucket h r t) in
+      shut-pending (r .phase) (passing h b) (holding h b) shut (λ v u. hold-iff h b v .0 u .2) (valid-phase h r t))
       (s .readers)
 
   -- step 7 finds what it expects: no reader stands at that bucket (rule 5)

@@ -113,4 +113,5 @@ module _ (h : Head) (l : List Reader) (s : Sound h l) where
 
 pub tested : (p : Page) → SoundPage p → T (soundOf p)
 tested p s =
-    subst (λ (rs : Readers). T (soundOf (pageOf (headOf p) rs))) (sym (s .neat)) (tested-parts (headOf p) (live (p .readers)) (s .parts))
+    subst (λ (rs : Readers). T (soundOf (pageOf (headOf p) rs))) (sym (s .neat))
+    (tested-parts (headOf p) (live (p .readers)) (s .parts))

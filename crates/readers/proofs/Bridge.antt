@@ -28,7 +28,8 @@ pub length-listed : (l : List Reader) → length l ≤ capacity → length (list
 length-listed l h = simp (length-append, length-replicate) (omega arith)
 
 pub blank-listed : (l : List Reader) → T (blankPast (listed l))
-blank-listed l = rw drop-append-seam (every-replicate (sameReader blankReader) (capacity - length l) blankReader (same-refl blankReader))
+blank-listed l =
+    rw drop-append-seam (every-replicate (sameReader blankReader) (capacity - length l) blankReader (same-refl blankReader))
 
 -- ---- an array that is well kept is the array of its list
 -- readers that are all x are copies of x
@@ -44,8 +45,9 @@ module _ (rs : Readers) (full : length (rs .items) ≡ capacity) (fits : rs .len
 
   pub listed-live : T (blankPast rs) → rs ≡ listed (live rs)
   listed-live t =
-      let n : length (drop (rs .len) (rs .items)) ≡ capacity - length (live rs) = simp (length-drop, length-live) (omega arith) in
-      let rest : drop (rs .len) (rs .items) ≡ replicate (capacity - length (live rs)) blankReader = same-all blankReader (drop (rs .len) (rs .items)) t ∙ rw n in
+      let later = drop (rs .len) (rs .items) in
+      let n : length later ≡ capacity - length (live rs) = simp (length-drop, length-live) (omega arith) in
+      let rest : later ≡ replicate (capacity - length (live rs)) blankReader = same-all blankReader later t ∙ rw n in
       let whole : rs .items ≡ listed (live rs) .items = sym (take-append-drop (rs .len) (rs .items)) ∙ rw rest in
       λ i. record { items = whole i; len = sym length-live i }
 
@@ -62,7 +64,8 @@ module _ (l : List Reader) (r : Reader) where
   unfolding putAt
   put-listed at h k = simp (le-leb _ _ h, lt-ltb _ _ k) (rw (length-set, set-append-left))
 
-pub removed-listed : (l : List Reader) (at : ℕ) → length l ≤ capacity → at < length l → removedAt (listed l) at ≡ listed (without at l)
+pub removed-listed : (l : List Reader) (at : ℕ) → length l ≤ capacity → at < length l
+    → removedAt (listed l) at ≡ listed (without at l)
 unfolding removedAt
 removed-listed l at h k =
     let n : length (without at l) ≡ length l - 1 = omega (arith, length-without l at k) in

@@ -30,7 +30,8 @@ none-is false e = tt
 module _ {A : Type 0} where
   -- ---- without
   -- the entry at the seam goes
-  pub without-split : (before : List A) (x : A) (after : List A) → without (length before) (before ++ x ∷ after) ≡ before ++ after
+  pub without-split : (before : List A) (x : A) (after : List A)
+      → without (length before) (before ++ x ∷ after) ≡ before ++ after
   without-split before x after = rw (take-append-seam, drop-append-add before (x ∷ after) 1)
 
   -- past the end nothing goes
@@ -126,7 +127,8 @@ module _ {A : Type 0} where
     tally-put (y ∷ l) zero x d h = omega arith
     tally-put (y ∷ l) (suc i) x d h = omega (arith, tally-put l i x d (omega arith))
 
-    pub tally-without : (l : List A) (i : ℕ) (d : A) → i < length l → tally test (without i l) + cond (test (getD l i d)) 1 0 ≡ tally test l
+    pub tally-without : (l : List A) (i : ℕ) (d : A) → i < length l
+        → tally test (without i l) + cond (test (getD l i d)) 1 0 ≡ tally test l
     tally-without [] i d h = absurd (omega arith)
     tally-without (x ∷ l) zero d h = omega arith
     tally-without (x ∷ l) (suc i) d h = rw suc-add (omega (arith, tally-without l i d (omega arith)))

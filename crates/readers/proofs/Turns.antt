@@ -100,12 +100,14 @@ module _ {A : Type 0} where
     closed h =
         let s = drop (at + 1) old in
         let inside : at + n < length old = omega arith in
-        let front : length (take at old ++ take n s) ≡ at + n = length-paste-head old at s n (omega arith) (simp length-drop (omega arith)) in
+        let front : length (take at old ++ take n s) ≡ at + n =
+        length-paste-head old at s n (omega arith) (simp length-drop (omega arith)) in
         let later : drop (at + 1) (take (at + 1 + n) old) ≡ take n s =
         rw take-add (drop-at (take (at + 1) old) (take n s) (at + 1) (length-take-le (at + 1) old (omega arith))) in
         let early : take at (take (at + 1 + n) old) ≡ take at old = take-take at (at + 1 + n) old (omega arith) in
         let next : suc (at + n) ≡ at + 1 + n = omega arith in
-        rw (drop-cons old (at + n) b, set-at (take at old ++ take n s) (getD old (at + n) b) (drop (suc (at + n)) old) b (at + n), later, early, next)
+        let put = set-at (take at old ++ take n s) (getD old (at + n) b) (drop (suc (at + n)) old) b (at + n) in
+        rw (drop-cons old (at + n) b, put, later, early, next)
 
     pub closed-at : (len : ℕ) → len ≤ length old → len ≡ at + 1 + n
         → set (paste old at (drop (at + 1) old) n) (len - 1) b ≡ without at (take len old) ++ b ∷ drop len old

@@ -22,22 +22,23 @@ abbrev μ-loop : tie.MeasureT-loop
 
 loop-holds : tie.Need-loop-holds Inv-loop μ-loop
 loop-holds c =
-    let full : length (c .before .args .rs .items) ≡ capacity = simp length-map at (c .before .good .0 .1 .1 .0 .1 .0 .1) in
-    (full, record { whole = rw (take-all capacity (c .before .args .rs .items) (omega arith)) })
+    let b = c .before in
+    let full : length (b .args .rs .items) ≡ capacity = simp length-map at (b .good .0 .1 .1 .0 .1 .0 .1) in
+    (full, record { whole = rw (take-all capacity (b .args .rs .items) (omega arith)) })
 
 returns : tie.Need-returns Inv-loop μ-loop
 returns c =
     let b = c .before .before .before .before .before in
     let e = simp (c .before .before .blank .ensures) at (c .before .same .ensures) in
-    one-fails (b .loop .inv .1) blankReader (omega arith) (omega arith) (sym e ∙ not-true (c .before .same .result) (c .if1 .taken))
+    let other = sym e ∙ not-true (c .before .same .result) (c .if1 .taken) in
+    one-fails (b .loop .inv .1) blankReader (omega arith) (omega arith) other
 
 loop-again : tie.Need-loop-again Inv-loop μ-loop
 loop-again c =
     let b = c .before .before .before .before .before in
-    let e = simp (c .before .before .blank .ensures) at (c .before .same .ensures) in (
-      b .loop .inv .0,
-      one-passes (b .loop .inv .1) blankReader (omega arith) (omega arith) (sym e ∙ not-false (c .before .same .result) (c .if1 .left)),
-    )
+    let e = simp (c .before .before .blank .ensures) at (c .before .same .ensures) in
+    let blank = sym e ∙ not-false (c .before .same .result) (c .if1 .left) in
+    (b .loop .inv .0, one-passes (b .loop .inv .1) blankReader (omega arith) (omega arith) blank)
 
 returns-2 : tie.Need-returns-2 Inv-loop μ-loop
 returns-2 c = all-pass (c .before .loop .inv .1) (omega arith)
@@ -45,4 +46,14 @@ returns-2 c = all-pass (c .before .loop .inv .1) (omega arith)
 pub blank-past-spec : {M : Type 1} → statement M
 blank-past-spec =
     tie.close
-    (tie.spec Inv-loop μ-loop loop-holds (λ c. search needs) (λ c. search needs) (λ c κs. search needs) (λ c κs. search needs) returns (λ c. search needs) (λ c. search needs) loop-again returns-2)
+    (tie.spec Inv-loop μ-loop
+    loop-holds
+    (λ c. search needs)
+    (λ c. search needs)
+    (λ c κs. search needs)
+    (λ c κs. search needs)
+    returns
+    (λ c. search needs)
+    (λ c. search needs)
+    loop-again
+    returns-2)

@@ -15,7 +15,8 @@ use Rattle.page_record.proofs.limits.buckets_within.Statement.{statemen
 use Rattle.page_record.proofs.limits.buckets_within.Tie as tie
 
 abbrev Inv-loop : tie.InvT-loop
-Inv-loop items len i₀ i = (length items ≡ capacity) × Passing (λ (r : Reader). ltb (r .bucket .0) buckets) (take len items) items len i
+Inv-loop items len i₀ i =
+    (length items ≡ capacity) × Passing (λ (r : Reader). ltb (r .bucket .0) buckets) (take len items) items len i
 
 abbrev μ-loop : tie.MeasureT-loop
 μ-loop items len i₀ i = capacity - i
@@ -43,4 +44,13 @@ returns-3 c = all-pass (c .before .loop .inv .1) (omega arith)
 pub buckets-within-spec : {M : Type 1} → statement M
 buckets-within-spec =
     tie.close
-    (tie.spec Inv-loop μ-loop loop-holds returns (λ c. search needs) (λ c. search needs) returns-2 (λ c. search needs) (λ c. search needs) loop-again returns-3)
+    (tie.spec Inv-loop μ-loop
+    loop-holds
+    returns
+    (λ c. search needs)
+    (λ c. search needs)
+    returns-2
+    (λ c. search needs)
+    (λ c. search needs)
+    loop-again
+    returns-3)

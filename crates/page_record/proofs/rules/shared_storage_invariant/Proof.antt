@@ -47,4 +47,14 @@ returns-3 c = all-pass (c .before .loop .inv .1) (omega arith)
 pub shared-storage-invariant-spec : {M : Type 1} → statement M
 shared-storage-invariant-spec =
     tie.close
-    (tie.spec Inv-loop μ-loop loop-holds returns (λ c. search needs) (λ c. search needs) (λ c κs. tt) returns-2 (λ c. search needs) (λ c. search needs) loop-again returns-3)
+    (tie.spec Inv-loop μ-loop
+    loop-holds
+    returns
+    (λ c. search needs)
+    (λ c. search needs)
+    (λ c κs. tt)
+    returns-2
+    (λ c. search needs)
+    (λ c. search needs)
+    loop-again
+    returns-3)
