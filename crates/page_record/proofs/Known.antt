@@ -188,7 +188,7 @@ module _ {h : Head} {l : List Reader} (s : Sound h l) where
       let b = r .bucket .0 in
       known s .passing-in b (both (notLoading (h .flag)) (passing h b) t (rw e at (valid-phase h r (listed-valid i k))))
 
-  -- an editor that has closed every bucket: no reader is Pending2 or Obtained (rules 7 and 8)
+  -- an editor that has closed every bucket: no reader is Pending2 or Obtained (rule 7)
   pub closed-pending : T (isClosed (h .«exc_state»)) → T (every readerPending l)
   closed-pending c =
       every-mono (sharedStateValid h) readerPending l

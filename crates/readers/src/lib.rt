@@ -1,5 +1,5 @@
-// The bounded list of readers, by value: 64 entries, of which the first `len` count. Every function takes any value of its
-// types, also a length above the capacity or a place past the length, and its promise is an equation.
+// The bounded list of readers, by value: an array of the capacity's length, of which the first `len` entries count. Every function
+// takes any value of its types, also a length above the capacity or a place past the length, and its promise is an equation.
 ghost use mathlib.Core.Path.{_≡_};
 ghost use Rattle.readers.specs.Same.{samePhase, sameReader};
 ghost use Rattle.readers.specs.Listed.{live, blankReader, blankPast, findIn, countAt, isIn, countIn, noReaders, pushed, putAt, removedAt};
