@@ -1,6 +1,6 @@
 -- What the lowest broken rule says. A page is sound just if every rule holds (`sound-all`) and just if the number is 0
--- (`sound-broken`); the number is k + 1 just if the rule at place k is the first that fails (`broken-first`). Each is an
--- instance of a law over any list of tests. Assumes nothing.
+-- (`sound-broken`); the number is k + 1 just if the rule at place k is the first that fails (`broken-first`). The first and
+-- the last are instances of laws over any list of tests (`none-broken`, `first-false`). Assumes nothing.
 use Prim.Native.Nat.{ℕ, zero, suc, _+_, _<_}
 use mathlib.Core.Path.{_≡_, refl, subst}
 use mathlib.Core.Logic.{_↔_}

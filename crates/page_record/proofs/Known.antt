@@ -1,6 +1,6 @@
 -- What a sound record says, beyond its rules one by one: the facts that the steps and the demands use. First of one reader,
--- by rule 7; then of flag, holders and storage, read off the twelve shapes (`known`, `holders-within`); then of the list and the
--- counts, by rules 5 and 7. Assumes nothing.
+-- by rule 7; then of flag, holders and storage, read off the twelve shapes (`known`, `holders-within`); then of the list and
+-- the counts, by rules 5 and 7. Assumes nothing.
 use Prim.Native.Nat.{ℕ, _≤_, _<_}
 use mathlib.Core.Path.{_≡_, subst}
 use mathlib.Core.Logic.{_↔_, _⊎_, inl, inr}

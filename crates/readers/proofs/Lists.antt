@@ -1,6 +1,6 @@
--- Laws of `tally`, `every` and `without`, over any element type: what each says after the list grows, loses or changes an entry.
--- In order: `without` at a seam, past the end, and its length; `every` of two lists and of parts, after each change, at an entry,
--- and of two tests; `tally` of two lists, after each change, and what it says of the entries.
+-- Laws of `tally`, `every` and `without`, over any element type: what each says after the list grows, loses or changes an
+-- entry. In order: `without` at a seam, past the end, and its length; `every` of two lists and of parts, after each change, at
+-- an entry, and of two tests; `tally` of two lists, after each change, and what it says of the entries.
 -- `set` at a seam is `set-append-seam` of lib.Seq. Assumes nothing.
 use Prim.Native.Nat.{ℕ, zero, suc, _+_, _<_, _≤_}
 use mathlib.Core.Path.{_≡_, refl}

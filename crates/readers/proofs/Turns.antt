@@ -1,6 +1,7 @@
--- One turn of each loop of the crate, as laws over any element type and any list. In order: a look at one entry after the other
--- (`next`, `turn`, with the ends `past` and `past-all`); a count of those that pass a test (`Counting`); whether all pass it
--- (`Passing`); a gap that is closed (`moved`, `stands`, with the end `closed-at`). Assumes nothing.
+-- One turn of each loop over readers, here and in the crates above, as laws over any element type and any list. In order: a
+-- look at one entry after the other (`next`, `turn`, with the ends `past` and `past-all`); a count of those that pass a test
+-- (`Counting`); whether all pass it (`Passing`); a gap that is closed (`moved`, `stands`, with the end `closed-at`). Assumes
+-- nothing.
 use Prim.Native.Nat.{ℕ, suc, _+_, _-_, _<_, _≤_, min}
 use mathlib.Core.Path.{_≡_, _∙_, sym}
 use mathlib.Core.Bool.{Bool, true, false}
@@ -16,7 +17,7 @@ pub record Counting {A : Type 0} (test : A → Bool) (items : List A) (len n i :
   pub few : n ≤ i
   pub whole : n + tally test (drop i (take len items)) ≡ tally test (take len items)
 
--- all pass just if those do that are left of an array's first `len`
+-- all pass just if those do that are left of an array's first `len`, from i on
 pub record Passing {A : Type 0} (test : A → Bool) (all items : List A) (len i : ℕ) : Type 0 where
   pub whole : every test all ≡ every test (drop i (take len items))
 

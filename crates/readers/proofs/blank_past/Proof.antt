@@ -1,5 +1,5 @@
--- `readers::blank_past` meets its contract. The loop's invariant: all entries past the length are blank just if those are that
--- are left (`Passing`); a turn finds one that is not, or passes one, by what `same` and `blank` ensure. Assumes nothing.
+-- `readers::blank_past` meets its contract. The loop's invariant: all entries past the length are blank just if those that are
+-- left are (`Passing`); a turn finds one that is not, or passes one, by what `same` and `blank` ensure. Assumes nothing.
 use Prim.Native.Nat.{_-_}
 use mathlib.Core.Path.{_≡_, _∙_, sym}
 use native.Mathlib.Omega.{arith}

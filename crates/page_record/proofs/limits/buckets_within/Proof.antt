@@ -1,5 +1,5 @@
--- `page_record::limits::buckets_within` meets its contract. The loop's invariant: all listed readers pass just if those do that
--- are left (`Passing`); a turn finds one that fails, or passes one, by the test on the bucket. Assumes nothing.
+-- `page_record::limits::buckets_within` meets its contract. The loop's invariant: all listed readers pass just if those that
+-- are left do (`Passing`); a turn finds one that fails, or passes one, by the test on the bucket. Assumes nothing.
 use Prim.Native.Nat.{_-_}
 use mathlib.Core.Path.{_≡_, refl}
 use native.Mathlib.Omega.{arith}

@@ -1,6 +1,6 @@
--- `page_record::rules::shared_storage_invariant` meets its contract. The loop's invariant: all listed readers are valid just if
--- those are that are left (`Passing`); a turn finds one that is not, or passes one, by what `shared_state_valid` ensures. Assumes
--- nothing.
+-- `page_record::rules::shared_storage_invariant` meets its contract. The loop's invariant: all listed readers are valid just
+-- if those that are left are (`Passing`); a turn finds one that is not, or passes one, by what `shared_state_valid` ensures.
+-- Assumes nothing.
 use Prim.Native.Nat.{_-_}
 use mathlib.Core.Path.{_≡_, refl, sym, _∙_}
 use native.Mathlib.Omega.{arith}
