@@ -10,11 +10,13 @@ use kinds::Phase;
 use kinds::Reader;
 use kinds::phase_number;
 
+// The array, and how many of its entries count.
 pub struct Readers {
     pub items: [Reader; CAPACITY],
     pub len: usize,
 }
 
+// What a search answers: a place, or that there is none.
 pub enum Found {
     At(usize),
     Nowhere,
