@@ -1,6 +1,6 @@
 -- What the lowest broken rule says. A page is sound just if every rule holds (`sound-all`) and just if the number is 0
--- (`sound-broken`); the number is k + 1 just if the rule at place k is the first that fails (`broken-first`). Each is an
--- instance of a law over any list of tests. Assumes nothing.
+-- (`sound-broken`); the number is k + 1 just if the rule at place k is the first that fails (`broken-first`). The first and
+-- the last are instances of laws over any list of tests (`none-broken`, `first-false`). Assumes nothing.
 use Prim.Native.Nat.{ℕ, zero, suc, _+_, _<_}
 use mathlib.Core.Path.{_≡_, refl, subst}
 use mathlib.Core.Logic.{_↔_}
@@ -46,7 +46,8 @@ from n [] r e = absurd (omega arith)
 from n (true ∷ ts) r e =
     let f = from (n + 1) ts r e in
     record { place = suc (f .place); counted = omega arith; first = later ts (f .place) (f .first) }
-from n (false ∷ ts) r e = record { place = 0; counted = omega arith; first = record { fails = refl; earlier = λ i h. absurd (omega arith) } }
+from n (false ∷ ts) r e =
+    record { place = 0; counted = omega arith; first = record { fails = refl; earlier = λ i h. absurd (omega arith) } }
 
 to : (n : ℕ) (ts : List Bool) (k : ℕ) → FirstFalse ts k → firstBroken n ts ≡ n + k
 to n [] k f = absurd (let z : _≡_ {A = ℕ} 0 1 = cc in omega arith)

@@ -23,7 +23,8 @@ use Rattle.page_record.specs.Census.{censusRow, censusRows, censusOf}
 -- ---- any list
 -- a reader is in one phase
 one-phase : (at : Bool) (p : Phase)
-    → cond (at && eqb (phaseNumber p) 1) 1 0 + cond (at && eqb (phaseNumber p) 2) 1 0 + cond (at && eqb (phaseNumber p) 3) 1 0 ≡ cond at 1 0
+    → cond (at && eqb (phaseNumber p) 1) 1 0 + cond (at && eqb (phaseNumber p) 2) 1 0 + cond (at && eqb (phaseNumber p) 3) 1 0
+    ≡ cond at 1 0
 one-phase false p = refl
 one-phase true Phase.Pending = refl
 one-phase true Phase.Pending2 = refl
@@ -39,7 +40,8 @@ module _ (p : Page) where
   unfolding censusOf
   census-row s b h = simp (to-true (soundOf p) s) (at b h)
     where
-      at : (b : ℕ) → b < buckets → getD (cond true (censusRows (live (p .readers))) (censusRows [])) b [] ≡ censusRow (live (p .readers)) b
+      at : (b : ℕ) → b < buckets
+          → getD (cond true (censusRows (live (p .readers))) (censusRows [])) b [] ≡ censusRow (live (p .readers)) b
       at zero h = refl
       at (suc zero) h = refl
       at (suc (suc zero)) h = refl

@@ -1,6 +1,6 @@
 -- What a sound record says, beyond its rules one by one: the facts that the steps and the demands use. First of one reader,
--- by rule 7; then of flag, holders and storage, read off the twelve shapes (`known`); then of the list and the counts, by
--- rules 5 and 7. Assumes nothing.
+-- by rule 7; then of flag, holders and storage, read off the twelve shapes (`known`, `holders-within`); then of the list and
+-- the counts, by rules 5 and 7. Assumes nothing.
 use Prim.Native.Nat.{ℕ, _≤_, _<_}
 use mathlib.Core.Path.{_≡_, subst}
 use mathlib.Core.Logic.{_↔_, _⊎_, inl, inr}
@@ -19,17 +19,16 @@ use Rattle.kinds.specs.declared.Phase.{Phase}
 use Rattle.kinds.specs.declared.Reader.{Reader}
 use Rattle.kinds.specs.declared.ExcState.{ExcState}
 use Rattle.kinds.specs.declared.LoadingState.{LoadingState}
-use Rattle.kinds.specs.declared.WritebackState.{WritebackState}
 use Rattle.readers.specs.Lists.{every}
 use Rattle.readers.specs.Listed.{isAt, countAt, blankReader}
 use Rattle.readers.proofs.Tests.{both, halves, and-iff}
 use Rattle.readers.proofs.Lists.{every-mono, every-at, tally-positive}
 use Rattle.readers.proofs.First.{First}
 use Rattle.page_record.specs.declared.Head.{Head}
-use Rattle.page_record.specs.Holders.{holds, valueOf, isClaim, isAwait, isPending, isEditing, excBucket, excVisited, excValue, noLoad, isBefore, noWriteback}
+use Rattle.page_record.specs.Holders.{holds, valueOf, isClaim, isPending, isEditing, excBucket, excVisited, excValue, noLoad, isBefore, noWriteback}
 use Rattle.page_record.specs.Pages.{numberAt}
 use Rattle.page_record.specs.References.{refAt}
-use Rattle.page_record.specs.Rules.{sharedStateValid, phaseValid, excLets, mayPass, mayHold}
+use Rattle.page_record.specs.Rules.{sharedStateValid, phaseValid, excLets, mayPass, mayHold, holdersWithin}
 use Rattle.page_record.specs.Facts.{Sound}
 use Rattle.page_record.specs.Shapes.{Shape, unmapped, waiting, counted, loaded, available, claimed, writeback, writebackClaimed, writebackAwait, await, pending, editing, headAt, valid}
 use Rattle.page_record.proofs.Shapes.{no-load, by-shape}
@@ -46,21 +45,25 @@ not-before : (l : LoadingState) → T (noLoad l) → T (not (isBefore l))
 not-before l t = rw (no-load l t) tt
 
 -- it may hold v just if storage does, nobody loads, and it may be past the first check
-pub hold-iff : (h : Head) (b v : ℕ) → T (holding h b v) ↔ T (holds (h .storage) v) × T (noLoad (h .«loading_state»)) × T (passing h b)
+pub hold-iff : (h : Head) (b v : ℕ)
+    → T (holding h b v) ↔ T (holds (h .storage) v) × T (noLoad (h .«loading_state»)) × T (passing h b)
 hold-iff h b v = (
-  λ t. let u = simp and-iff at t in (u .0 .0 .0, u .0 .1, simp and-iff ((u .0 .0 .1, not-before (h .«loading_state») (u .0 .1)), u .1)),
+  λ t.
+      let u = simp and-iff at t in
+      (u .0 .0 .0, u .0 .1, simp and-iff ((u .0 .0 .1, not-before (h .«loading_state») (u .0 .1)), u .1)),
   λ t. let u = simp and-iff at (t .2) in simp and-iff (((t .0, u .0 .0), t .1), u .1),
 )
 
 -- a reader that keeps rule 7: its bucket, and what its phase asks
 module _ (h : Head) (r : Reader) (t : T (sharedStateValid h r)) where
+  parts : T (ltb (r .bucket .0) buckets) × T (phaseValid (r .phase) (passing h (r .bucket .0)) (holding h (r .bucket .0)))
+  parts = halves (ltb (r .bucket .0) buckets) (phaseValid (r .phase) (passing h (r .bucket .0)) (holding h (r .bucket .0))) t
+
   pub valid-bucket : r .bucket .0 < buckets
-  valid-bucket =
-      ltb→lt (r .bucket .0) buckets
-      (halves (ltb (r .bucket .0) buckets) (phaseValid (r .phase) (passing h (r .bucket .0)) (holding h (r .bucket .0))) t .0)
+  valid-bucket = ltb→lt (r .bucket .0) buckets (parts .0)
 
   pub valid-phase : T (phaseValid (r .phase) (passing h (r .bucket .0)) (holding h (r .bucket .0)))
-  valid-phase = halves (ltb (r .bucket .0) buckets) (phaseValid (r .phase) (passing h (r .bucket .0)) (holding h (r .bucket .0))) t .1
+  valid-phase = parts .1
 
 -- ---- flag, holders and storage
 -- the page is in storage, and this is its value
@@ -74,9 +77,8 @@ pub record Known (h : Head) : Type 0 where
   -- a writeback: the flag is one of the three that step 2 names (rule 6)
   pub writes : T (not (noWriteback (h .«writeback_state»)))
       → (h .flag ≡ Flag.Writeback) ⊎ (h .flag ≡ Flag.WritebackAndClaimed) ⊎ (h .flag ≡ Flag.WritebackAndPendingExcLock)
-  -- Claim: one of the two that step 5 names; PendingAwaitWriteback: one of the two that it leaves (rules 2 and 6)
+  -- Claim: one of the two that step 5 names (rules 2 and 6)
   pub claims : T (isClaim (h .«exc_state»)) → (h .flag ≡ Flag.Claimed) ⊎ (h .flag ≡ Flag.WritebackAndClaimed)
-  pub awaits : T (isAwait (h .«exc_state»)) → (h .flag ≡ Flag.PendingExcLock) ⊎ (h .flag ≡ Flag.WritebackAndPendingExcLock)
   -- Unmapped; Available; Available or Writeback: the page is in (rules 1 and 6)
   pub unmapped-in : T (isUnmapped (h .flag)) → Stored (h .storage)
   pub available-in : T (isAvailable (h .flag)) → Stored (h .storage)
@@ -88,8 +90,6 @@ pub record Known (h : Head) : Type 0 where
   pub passing-idle : (b : ℕ) → T (notLoading (h .flag) && passing h b) → T (noLoad (h .«loading_state»))
   -- an editor that is Pending: the page is in, with the editor's value (rule 2)
   pub pending-in : T (isPending (h .«exc_state»)) → h .storage ≡ Storage.In (excValue (h .«exc_state»))
-  -- an editor that is Pending or Obtained: no writeback (rule 2)
-  pub locked-alone : T (isPending (h .«exc_state») || isEditing (h .«exc_state»)) → h .«writeback_state» ≡ WritebackState.None
 
 never : {A : Type 0} → ⊥ → A
 never t = absurd t
@@ -103,7 +103,7 @@ known-at (loaded m) cs t = search (inl, inr, never)
 known-at (available v) cs t = search (inl, inr, never)
 known-at (claimed m v) cs t = search (inl, inr, never)
 known-at (writeback v) cs t = search (inl, inr, never)
-known-at (writebackClaimed m v) cs t = search (inl, inr, never)
+known-at (writebackClaimed m v) cs t = search (inl, inr)
 known-at (writebackAwait m v) cs t = search (inl, inr, never)
 known-at (await m v) cs t = search (inl, inr, never)
 known-at (pending m n true v) cs t = search (inl, inr, never)
@@ -113,6 +113,30 @@ known-at (editing m false) cs t = search (inl, inr, never)
 
 pub known : {h : Head} {l : List Reader} → Sound h l → Known h
 known {h} s = by-shape (λ (x : Head). Known x) known-at h (s .head)
+
+-- ---- a holder's bucket, and the number of buckets that an editor has visited
+within-at : (z : Shape) (cs : List Count) → T (valid z)
+    → T (holdersWithin (headAt z cs .«exc_state») (headAt z cs .«loading_state»))
+within-at (unmapped v) cs t = tt
+within-at waiting cs t = tt
+within-at (counted b) cs t = simp and-iff ((tt, t), tt)
+within-at (loaded m) cs t = simp and-iff ((tt, t), tt)
+within-at (available v) cs t = tt
+within-at (claimed m v) cs t = simp and-iff ((t, tt), tt)
+within-at (writeback v) cs t = tt
+within-at (writebackClaimed m v) cs t = simp and-iff ((t, tt), tt)
+within-at (writebackAwait m v) cs t = simp and-iff ((t, tt), tt)
+within-at (await m v) cs t = simp and-iff ((t, tt), tt)
+within-at (pending m n clean v) cs t = let u = simp and-iff at t in simp and-iff ((u .1, tt), u .0)
+within-at (editing m clean) cs t = simp and-iff ((t, tt), tt)
+
+module _ {h : Head} {l : List Reader} (s : Sound h l) where
+  -- they are within their limits by rules 2 and 4, without rule 8
+  pub holders-within : T (holdersWithin (h .«exc_state») (h .«loading_state»))
+  holders-within = by-shape (λ (x : Head). T (holdersWithin (x .«exc_state») (x .«loading_state»))) within-at h (s .head)
+
+  pub visited-within : excVisited (h .«exc_state») .0 ≤ buckets
+  visited-within = leb→le (excVisited (h .«exc_state») .0) buckets ((simp and-iff at holders-within) .1)
 
 -- ---- an editor that has closed every bucket
 -- it has visited all of them, or has the page out
@@ -134,8 +158,8 @@ closed-passing h b t k u = closed-lets (h .«exc_state») b t k ((simp and-iff a
 abbrev pub readerPending : Reader → Bool
 readerPending r = eqb (phaseNumber (r .phase)) 1
 
-shut-pending : (p : Phase) (pass : Bool) (hold : ℕ → Bool) → (T pass → ⊥) → ((v : ℕ) → T (hold v) → T pass) → T (phaseValid p pass hold)
-    → T (eqb (phaseNumber p) 1)
+shut-pending : (p : Phase) (pass : Bool) (hold : ℕ → Bool) → (T pass → ⊥) → ((v : ℕ) → T (hold v) → T pass)
+    → T (phaseValid p pass hold) → T (eqb (phaseNumber p) 1)
 shut-pending Phase.Pending pass hold shut past t = tt
 shut-pending Phase.Pending2 pass hold shut past t = absurd (shut t)
 shut-pending (Phase.Obtained v) pass hold shut past t = absurd (shut (past v t))
@@ -157,20 +181,21 @@ module _ {h : Head} {l : List Reader} (s : Sound h l) where
       omega (arith, s .counts b (valid-bucket h r (listed-valid i k)), tally-positive (isAt b) l i blankReader k (eqb-refl b))
 
   -- a listed Pending2 reader, and the flag is not Loading: the page is in (rules 1, 2, 6 and 7)
-  pub pending2-in : (i : ℕ) → i < length l → (getD l i blankReader) .phase ≡ Phase.Pending2 → T (notLoading (h .flag)) → Stored (h .storage)
+  pub pending2-in : (i : ℕ) → i < length l → (getD l i blankReader) .phase ≡ Phase.Pending2 → T (notLoading (h .flag))
+      → Stored (h .storage)
   pending2-in i k e t =
       let r = getD l i blankReader in
       let b = r .bucket .0 in
       known s .passing-in b (both (notLoading (h .flag)) (passing h b) t (rw e at (valid-phase h r (listed-valid i k))))
 
-  -- an editor that has closed every bucket: no reader is Pending2 or Obtained (rules 7 and 8)
+  -- an editor that has closed every bucket: no reader is Pending2 or Obtained (rule 7)
   pub closed-pending : T (isClosed (h .«exc_state»)) → T (every readerPending l)
   closed-pending c =
       every-mono (sharedStateValid h) readerPending l
       (λ r t.
       let b = r .bucket .0 in
-      shut-pending (r .phase) (passing h b) (holding h b) (closed-passing h b c (valid-bucket h r t)) (λ v u. hold-iff h b v .0 u .2)
-      (valid-phase h r t))
+      let shut = closed-passing h b c (valid-bucket h r t) in
+      shut-pending (r .phase) (passing h b) (holding h b) shut (λ v u. hold-iff h b v .0 u .2) (valid-phase h r t))
       (s .readers)
 
   -- step 7 finds what it expects: no reader stands at that bucket (rule 5)

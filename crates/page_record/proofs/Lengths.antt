@@ -2,7 +2,7 @@
 -- readers is above the capacity (`tally-live`), and so the references at a bucket are few (`refs-le`). Assumes nothing.
 use Prim.Native.Nat.{ℕ, _+_, _≤_}
 use mathlib.Core.Path.{_≡_}
-use mathlib.Core.Bool.{Bool, true, false, cond, _&&_, and-assoc, and-true}
+use mathlib.Core.Bool.{Bool, _&&_, and-assoc, and-true}
 use mathlib.Core.List.{List, [], _∷_}
 use native.Mathlib.Omega.{arith}
 use lib.Dec.{eqb}
@@ -15,7 +15,7 @@ use Rattle.kinds.specs.declared.LoadingState.{LoadingState}
 use Rattle.readers.specs.declared.Readers.{Readers}
 use Rattle.readers.specs.Lists.{tally, every}
 use Rattle.readers.specs.Listed.{live, isAt}
-use Rattle.readers.proofs.Lists.{tally-le}
+use Rattle.readers.proofs.Lists.{one-le, tally-le}
 use Rattle.page_record.specs.Holders.{excBucket, loadingBucket}
 use Rattle.page_record.specs.References.{refAt, countAllRefs}
 
@@ -30,10 +30,6 @@ every-four test d (w ∷ x ∷ y ∷ z ∷ []) e = simp (and-assoc, and-true)
 every-four test d (w ∷ x ∷ y ∷ z ∷ v ∷ l) e = absurd (omega arith)
 
 -- ---- the references at a bucket
-one-le : (t : Bool) → cond t 1 0 ≤ 1
-one-le true = omega arith
-one-le false = omega arith
-
 -- a holder adds at most one
 ref-le : (m : MaybeBucket) (b : ℕ) → refAt m b ≤ 1
 ref-le MaybeBucket.None b = omega arith

@@ -81,7 +81,8 @@ no-load LoadingState.Pending t = absurd t
 no-load (LoadingState.PendingCounted m) t = absurd t
 no-load (LoadingState.Obtained m) t = absurd t
 
-pub is-before : (l : LoadingState) → T (isBefore l) → (l ≡ LoadingState.Pending) ⊎ (l ≡ LoadingState.PendingCounted (loadingBucket l))
+pub is-before : (l : LoadingState) → T (isBefore l)
+    → (l ≡ LoadingState.Pending) ⊎ (l ≡ LoadingState.PendingCounted (loadingBucket l))
 is-before LoadingState.None t = absurd t
 is-before LoadingState.Pending t = inl refl
 is-before (LoadingState.PendingCounted m) t = inr refl
@@ -134,8 +135,8 @@ has-bucket MaybeBucket.None t = absurd t
 has-bucket (MaybeBucket.At b) t = refl
 
 -- beside a loader there is no exclusive holder
-pub loads-alone : (e : ExcState) (s : Storage) (l : LoadingState) (w : WritebackState) → T (excStateInvariants e s l w) → noLoad l ≡ false
-    → e ≡ ExcState.None
+pub loads-alone : (e : ExcState) (s : Storage) (l : LoadingState) (w : WritebackState)
+    → T (excStateInvariants e s l w) → noLoad l ≡ false → e ≡ ExcState.None
 loads-alone ExcState.None s l w t n = refl
 loads-alone (ExcState.Claim m v) s l w t n = absurd (rw n at t)
 loads-alone (ExcState.PendingAwaitWriteback m v) s l w t n = absurd (rw n at t)
@@ -217,7 +218,8 @@ module _ (s : Storage) (e : ExcState) (l : LoadingState) (w : WritebackState) wh
       let u = simp and-iff at (r .flag) in
       let b = is-loaded l (u .0) in
       let a = loads-alone e s l w (r .exc) (rw b) in
-      rw (a, b, no-writeback w (u .1), is-out s (rw (a, b) at (r .storage))) (loaded (loadingBucket l), rw b at (r .loading), λ cs. refl)
+      rw (a, b, no-writeback w (u .1), is-out s (rw (a, b) at (r .storage)))
+      (loaded (loadingBucket l), rw b at (r .loading), λ cs. refl)
   view Flag.LoadingExcLock r = let u = simp and-iff at (r .flag) in loads r (no-writeback w (u .1)) (is-before l (u .0))
   view Flag.Available r =
       let u = simp and-iff at (r .flag) in
@@ -236,12 +238,14 @@ module _ (s : Storage) (e : ExcState) (l : LoadingState) (w : WritebackState) wh
       let u = simp and-iff at (r .flag) in
       let a = is-claim e (u .0) in
       let k = claims (rw a at (r .exc)) in
-      rw (a, writes (excValue e) (u .1) (r .writeback) (k .2), k .0, k .2) (writebackClaimed (excBucket e) (excValue e), k .1, λ cs. refl)
+      rw (a, writes (excValue e) (u .1) (r .writeback) (k .2), k .0, k .2)
+      (writebackClaimed (excBucket e) (excValue e), k .1, λ cs. refl)
   view Flag.WritebackAndPendingExcLock r =
       let u = simp and-iff at (r .flag) in
       let a = is-await e (u .0) in
       let k = claims (rw a at (r .exc)) in
-      rw (a, writes (excValue e) (u .1) (r .writeback) (k .2), k .0, k .2) (writebackAwait (excBucket e) (excValue e), k .1, λ cs. refl)
+      rw (a, writes (excValue e) (u .1) (r .writeback) (k .2), k .0, k .2)
+      (writebackAwait (excBucket e) (excValue e), k .1, λ cs. refl)
   view Flag.PendingExcLock r =
       let u = simp and-iff at (r .flag) in
       let a = is-await e (u .0) in
@@ -275,5 +279,6 @@ shaped (editing m true) cs t = simp (to-true (validBucket m) t) tt
 shaped (editing m false) cs t = simp (to-true (validBucket m) t) tt
 
 -- what holds of every valid shape holds of every sound head
-pub by-shape : (P : Head → Type 0) → ((z : Shape) (cs : List Count) → T (valid z) → P (headAt z cs)) → (h : Head) → T (headSound h) → P h
+pub by-shape : (P : Head → Type 0) → ((z : Shape) (cs : List Count) → T (valid z) → P (headAt z cs))
+    → (h : Head) → T (headSound h) → P h
 by-shape P f h t = let r = shape h t in subst P (sym (r .2)) (f (r .0) (h .«ref_counts») (r .1))

@@ -1,9 +1,9 @@
 -- The test `soundOf` and the named facts `Sound` say the same: `facts` from the test, `tested` back, and `tested-parts` for a
 -- head and a list. Rule 8's holder buckets, visited number and readers' buckets follow from rules 2, 4 and 7, so the facts
 -- do not list them. Assumes nothing.
-use Prim.Native.Nat.{ℕ, zero, suc, _+_, _≤_, _<_}
+use Prim.Native.Nat.{ℕ, zero, suc, _-_, _≤_, _<_}
 use mathlib.Core.Path.{_≡_, sym, subst}
-use mathlib.Core.Bool.{Bool, true, false}
+use mathlib.Core.Bool.{Bool, true}
 use mathlib.Core.List.{List, [], _∷_}
 use native.Mathlib.Omega.{arith}
 use borrow.Author.Tests.{eq-eqb}
@@ -17,40 +17,20 @@ use Rattle.readers.specs.Lists.{every}
 use Rattle.readers.specs.Listed.{live, listed}
 use Rattle.readers.proofs.Tests.{is-true, both, halves, and-iff}
 use Rattle.readers.proofs.Lists.{every-mono, every-at}
+pub use Rattle.readers.proofs.Lists.{every-default}
 use Rattle.readers.proofs.Bridge.{live-listed, length-listed, blank-listed, length-live, listed-live}
 use Rattle.page_record.specs.declared.Head.{Head}
 use Rattle.page_record.specs.declared.Page.{Page}
 use Rattle.page_record.specs.Pages.{headOf, pageOf, numberAt}
 use Rattle.page_record.specs.References.{countAllRefs}
-use Rattle.page_record.specs.Rules.{everyBucket, refCountInvariant, sharedStateValid, countsWithin, holdersWithin, limitsKept, rules, firstBroken, lowestBroken, soundOf}
+use Rattle.page_record.specs.Rules.{everyBucket, refCountInvariant, sharedStateValid, countsWithin, limitsKept, rules, soundOf}
 use Rattle.page_record.specs.Facts.{Sound, SoundPage}
-use Rattle.page_record.specs.Shapes.{Shape, unmapped, waiting, counted, loaded, available, claimed, writeback, writebackClaimed, writebackAwait, await, pending, editing, headAt, valid}
-use Rattle.page_record.proofs.Shapes.{by-shape, rules-of}
-use Rattle.page_record.proofs.Known.{valid-bucket}
-
--- ---- lists of tests
-abbrev Hold : List Bool → Type 0
-Hold [] = Unit {0}
-Hold (t ∷ ts) = T t × Hold ts
-
-none-broken : (n : ℕ) (ts : List Bool) → 1 ≤ n → T (eqb (firstBroken n ts) 0) → Hold ts
-none-broken n [] h t = tt
-none-broken n (true ∷ ts) h t = (tt, none-broken (n + 1) ts (omega arith) t)
-none-broken n (false ∷ ts) h t = absurd (omega (arith, eqb→eq n 0 t))
-
-broken-none : (n : ℕ) (ts : List Bool) → Hold ts → T (eqb (firstBroken n ts) 0)
-broken-none n [] h = tt
-broken-none n (true ∷ ts) h = broken-none (n + 1) ts (h .1)
-broken-none n (false ∷ ts) h = absurd (h .0)
+use Rattle.page_record.proofs.Shapes.{rules-of}
+use Rattle.page_record.proofs.Known.{valid-bucket, holders-within}
+use Rattle.page_record.proofs.Broken.{sound-all}
 
 eq→eqb : (m n : ℕ) → m ≡ n → T (eqb m n)
 eq→eqb m n e = is-true (eq-eqb m n e)
-
--- an entry that is read past the end is the default
-pub every-default : {A : Type 0} (f : A → Bool) (l : List A) (i : ℕ) (d : A) → T (every f l) → T (f d) → T (f (getD l i d))
-every-default f [] i d t u = u
-every-default f (x ∷ l) zero d t u = halves (f x) (every f l) t .0
-every-default f (x ∷ l) (suc i) d t u = every-default f l i d (halves (f x) (every f l) t .1) u
 
 -- ---- every bucket, and every count
 at-bucket : (f : ℕ → Bool) → T (every f everyBucket) → (b : ℕ) → b < buckets → T (f b)
@@ -75,24 +55,23 @@ of-few (c ∷ cs) few = both (isFew c) (countsWithin cs) (le→leb (c .0) ceilin
 
 -- ---- from the test to the facts
 pub facts : (p : Page) → T (soundOf p) → SoundPage p
-unfolding soundOf lowestBroken
 facts p t =
     let rs = p .readers in
     let cs = p .«ref_counts» in
     let refs : ℕ → ℕ = λ b. countAllRefs (live rs) (p .«exc_state») (p .«loading_state») b in
     let equal : ℕ → Bool = λ b. eqb (numberAt cs b) (refs b) in
-    let rule = none-broken 1 (rules (headOf p) rs) (omega arith) t in
-    let from5 = rule .1 .1 .1 .1 in
-    let counts = halves (eqb (length cs) buckets) (every equal everyBucket) (from5 .0) in
-    let limits = simp and-iff at (from5 .1 .1 .1 .0) in
+    let rule : (n : ℕ) → T (getD (rules (headOf p) rs) (n - 1) true) =
+    λ n. every-default (λ t. t) (rules (headOf p) rs) (n - 1) true (rw (sound-all p) at t) tt in
+    let counts = halves (eqb (length cs) buckets) (every equal everyBucket) (rule 5) in
+    let limits = simp and-iff at (rule 8) in
     let short : rs .len ≤ capacity = leb→le (rs .len) capacity (limits .1 .0 .0 .0) in
     let whole : length (rs .items) ≡ capacity = eqb→eq (length (rs .items)) capacity (limits .1 .0 .0 .1) in
     record {
       parts = record {
-        head = simp and-iff ((((from5 .1 .0, rule .0), rule .1 .0), rule .1 .1 .0), rule .1 .1 .1 .0);
+        head = simp and-iff ((((rule 6, rule 1), rule 2), rule 3), rule 4);
         four = eqb→eq (length cs) buckets (counts .0);
         counts = λ b k. eqb→eq (numberAt cs b) (refs b) (at-bucket equal (counts .1) b k);
-        readers = from5 .1 .1 .0;
+        readers = rule 7;
         few = few-of cs (limits .0 .0);
         room = omega (arith, length-live rs whole short);
       };
@@ -100,62 +79,39 @@ facts p t =
     }
 
 -- ---- and back
--- a holder's bucket is 0 to 3, and the visited number at most 4
-within-at : (z : Shape) (cs : List Count) → T (valid z) → T (holdersWithin (headAt z cs .«exc_state») (headAt z cs .«loading_state»))
-within-at (unmapped v) cs t = tt
-within-at waiting cs t = tt
-within-at (counted b) cs t = simp and-iff ((tt, t), tt)
-within-at (loaded m) cs t = simp and-iff ((tt, t), tt)
-within-at (available v) cs t = tt
-within-at (claimed m v) cs t = simp and-iff ((t, tt), tt)
-within-at (writeback v) cs t = tt
-within-at (writebackClaimed m v) cs t = simp and-iff ((t, tt), tt)
-within-at (writebackAwait m v) cs t = simp and-iff ((t, tt), tt)
-within-at (await m v) cs t = simp and-iff ((t, tt), tt)
-within-at (pending m n clean v) cs t = let u = simp and-iff at t in simp and-iff ((u .1, tt), u .0)
-within-at (editing m clean) cs t = simp and-iff ((t, tt), tt)
-
 module _ (h : Head) (l : List Reader) (s : Sound h l) where
   -- rule 5
-  counts-tested : T (refCountInvariant (h .«ref_counts») l (h .«exc_state») (h .«loading_state»))
+  counts-tested : T (refCountInvariant (h .«ref_counts») (live (listed l)) (h .«exc_state») (h .«loading_state»))
   counts-tested =
       let cs = h .«ref_counts» in
       let refs : ℕ → ℕ = λ b. countAllRefs l (h .«exc_state») (h .«loading_state») b in
       let equal : ℕ → Bool = λ b. eqb (numberAt cs b) (refs b) in
-      both (eqb (length cs) buckets) (every equal everyBucket) (eq→eqb (length cs) buckets (s .four))
-      (every-bucket equal (λ b k. eq→eqb (numberAt cs b) (refs b) (s .counts b k)))
+      rw (live-listed l)
+      (both (eqb (length cs) buckets) (every equal everyBucket) (eq→eqb (length cs) buckets (s .four))
+      (every-bucket equal (λ b k. eq→eqb (numberAt cs b) (refs b) (s .counts b k))))
 
   -- rule 8
   limits-tested : T (limitsKept h (listed l))
   limits-tested =
       let near : Reader → Bool = λ r. ltb (r .bucket .0) buckets in
-      let holders : T (holdersWithin (h .«exc_state») (h .«loading_state»)) =
-      by-shape (λ (x : Head). T (holdersWithin (x .«exc_state») (x .«loading_state»))) within-at h (s .head) in
+      let holders = simp and-iff at (holders-within s) in
       let readers : T (every near l) =
       every-mono (sharedStateValid h) near l (λ r t. lt→ltb (r .bucket .0) buckets (valid-bucket h r t)) (s .readers) in
       let short = le→leb (length l) capacity (s .room) in
       let whole = eq→eqb (length (listed l .items)) capacity (length-listed l (s .room)) in
       rw (live-listed l)
-      (simp and-iff ((of-few (h .«ref_counts») (s .few), simp and-iff at holders), (((short, whole), readers), blank-listed l)))
+      (simp and-iff ((of-few (h .«ref_counts») (s .few), holders), (((short, whole), readers), blank-listed l)))
 
   pub tested-parts : T (soundOf (pageOf h (listed l)))
-  unfolding soundOf lowestBroken
   tested-parts =
       let r = rules-of (h .storage) (h .«exc_state») (h .«loading_state») (h .«writeback_state») (h .flag) (s .head) in
-      broken-none 1 (rules h (listed l)) (
-        r .storage,
-        (
-          r .exc,
-          (
-            r .writeback,
-            (
-              r .loading,
-              (rw (live-listed l) counts-tested, (r .flag, (rw (live-listed l) (s .readers), (limits-tested, tt)))),
-            ),
-          ),
-        ),
-      )
+      let readers : T (every (sharedStateValid h) (live (listed l))) = rw (live-listed l) (s .readers) in
+      let counts = simp and-iff at counts-tested in
+      let limits = simp and-iff at limits-tested in
+      rw (sound-all (pageOf h (listed l)))
+      (simp and-iff (r .storage, (r .exc, (r .writeback, (r .loading, (counts, (r .flag, (readers, (limits, tt)))))))))
 
 pub tested : (p : Page) → SoundPage p → T (soundOf p)
 tested p s =
-    subst (λ (rs : Readers). T (soundOf (pageOf (headOf p) rs))) (sym (s .neat)) (tested-parts (headOf p) (live (p .readers)) (s .parts))
+    subst (λ (rs : Readers). T (soundOf (pageOf (headOf p) rs))) (sym (s .neat))
+    (tested-parts (headOf p) (live (p .readers)) (s .parts))

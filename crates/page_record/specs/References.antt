@@ -10,7 +10,7 @@ use Rattle.kinds.specs.declared.LoadingState.{LoadingState}
 use Rattle.readers.specs.Listed.{countAt}
 use Rattle.page_record.specs.Holders.{excBucket, loadingBucket}
 
--- 1 where it is just this bucket
+-- 1 where it is just this bucket, else 0
 abbrev pub refAt : MaybeBucket → ℕ → ℕ
 refAt MaybeBucket.None b = 0
 refAt (MaybeBucket.At bucket) b = cond (eqb (bucket .0) b) 1 0

@@ -112,7 +112,7 @@ abbrev pub sharedStorageInvariant : Head → List Reader → Bool
 sharedStorageInvariant h readers = every (sharedStateValid h) readers
 
 -- ---- rule 8: the limits of document 01
--- each count at most 31
+-- each count at most the ceiling
 abbrev pub countsWithin : List Count → Bool
 countsWithin cs = every (λ (c : Count). leb (c .0) ceiling) cs
 
@@ -124,7 +124,7 @@ holdersWithin e l = validBucket (excBucket e) && validBucket (loadingBucket l) &
 abbrev pub bucketsWithin : List Reader → Bool
 bucketsWithin l = every (λ (r : Reader). ltb (r .bucket .0) buckets) l
 
--- at most 64 listed, each at a bucket 0 to 3, and blanks past them (an array always has its 64 entries)
+-- no more listed than the capacity, each at a bucket 0 to 3, and blanks past them (an array always has all its entries)
 abbrev pub readersWithin : Readers → Bool
 readersWithin rs =
     leb (rs .len) capacity
@@ -136,6 +136,10 @@ abbrev pub limitsKept : Head → Readers → Bool
 limitsKept h rs = countsWithin (h .«ref_counts») && holdersWithin (h .«exc_state») (h .«loading_state») && readersWithin rs
 
 -- ---- all eight
+-- how many rules there are: the code's RULES
+abbrev pub ruleCount : ℕ
+ruleCount = 8
+
 -- the rules in their order
 abbrev pub rules : Head → Readers → List Bool
 rules h rs =

@@ -26,7 +26,7 @@ fn counts_within(counts: [Count; BUCKETS as usize]) -> bool
         & (counts[3].0 <= CEILING)
 }
 
-// Every holder's bucket is one of the four, and its visited number at most four.
+// Every holder's bucket is one of the four, and the editor's visited number at most four.
 fn holders_within(e: ExcState, l: LoadingState) -> bool
     ensures { λ r. ⌜ r ≡ holdersWithin e l ⌝ }
 {

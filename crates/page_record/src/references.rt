@@ -11,7 +11,7 @@ use kinds::MaybeBucket;
 use readers::Readers;
 use readers::count_at;
 
-// 1 where it is just this bucket.
+// 1 where it is just this bucket, else 0.
 fn ref_at(m: MaybeBucket, b: Bucket) -> usize
     ensures { λ r. ⌜ r ≡ refAt m (b .0) ⌝ }
 {
@@ -21,6 +21,7 @@ fn ref_at(m: MaybeBucket, b: Bucket) -> usize
     }
 }
 
+// The editor's reference at a bucket.
 fn count_exc_refs(e: ExcState, b: Bucket) -> usize
     ensures { λ r. ⌜ r ≡ countExcRefs e (b .0) ⌝ }
 {
@@ -28,6 +29,7 @@ fn count_exc_refs(e: ExcState, b: Bucket) -> usize
     ref_at(bucket, b)
 }
 
+// The loader's reference at a bucket.
 fn count_loading_refs(l: LoadingState, b: Bucket) -> usize
     ensures { λ r. ⌜ r ≡ countLoadingRefs l (b .0) ⌝ }
 {
@@ -35,6 +37,7 @@ fn count_loading_refs(l: LoadingState, b: Bucket) -> usize
     ref_at(bucket, b)
 }
 
+// All references at a bucket: the readers', the editor's and the loader's.
 pub fn count_all_refs(readers: Readers, e: ExcState, l: LoadingState, b: Bucket) -> usize
     ensures { λ r. ⌜ r ≡ countAllRefs (live readers) e l (b .0) ⌝ }
 {

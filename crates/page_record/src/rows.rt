@@ -7,7 +7,7 @@ use kinds::Count;
 use readers::Readers;
 use readers::count_in;
 
-// How many readers stand at a bucket in the phase of this number: at most 64, which a count holds.
+// How many readers stand at a bucket in the phase of this number: at most the capacity, which a count holds.
 fn counted(readers: Readers, b: Bucket, phase: u8) -> Count
     ensures { λ r. ⌜ r ≡ record { 0 = countIn (b .0) phase (live readers) } ⌝ }
 {

@@ -51,7 +51,8 @@ pub fn storage_some_invariant(s: Storage, e: ExcState, l: LoadingState) -> bool
     is_stored(s) == !withdrawn(e, l)
 }
 
-// Rule 2: an editor stands beside no loader, at one of the four buckets, and holds what is in storage until it takes that out.
+// Rule 2: an editor stands beside no loader, at one of the four buckets, and holds what is in storage until it takes that
+// out. Beside one that is Pending or Obtained there is no writeback.
 pub fn exc_state_invariants(e: ExcState, s: Storage, l: LoadingState, w: WritebackState) -> bool
     ensures { λ r. ⌜ r ≡ excStateInvariants e s l w ⌝ }
 {
@@ -75,7 +76,7 @@ pub fn exc_state_invariants(e: ExcState, s: Storage, l: LoadingState, w: Writeba
     }
 }
 
-// Rule 3: what the archive writes is what is in storage.
+// Rule 3: what the archive writes is what is in storage, and nobody loads.
 pub fn writeback_state_invariants(w: WritebackState, s: Storage, l: LoadingState) -> bool
     ensures { λ r. ⌜ r ≡ writebackStateInvariants w s l ⌝ }
 {
@@ -85,7 +86,8 @@ pub fn writeback_state_invariants(w: WritebackState, s: Storage, l: LoadingState
     }
 }
 
-// Rule 4: a loader stands at one of the four buckets; one that is counted has a bucket.
+// Rule 4: a loader stands at one of the four buckets; one that is counted has a bucket. Until it is Obtained there is no
+// writeback.
 pub fn loading_state_invariants(l: LoadingState, w: WritebackState) -> bool
     ensures { λ r. ⌜ r ≡ loadingStateInvariants l w ⌝ }
 {

@@ -1,12 +1,12 @@
 -- From the array to the list: what `listed l` holds (`live-listed`, `length-listed`, `blank-listed`); that a well kept array is
--- the array of its list (`listed-live`); and what each change does to `listed l` (`empty-listed`, `pushed-listed`, `put-listed`,
+-- the array of its list (`listed-live`); and what each change does to `listed l` (`pushed-listed`, `put-listed`,
 -- `removed-listed`). No law names the capacity's number. Assumes nothing.
 use Prim.Native.Nat.{ℕ, suc, _+_, _-_, _<_, _≤_}
 use mathlib.Core.Path.{_≡_, refl, sym, _∙_}
-use mathlib.Core.Bool.{true, false}
+use mathlib.Core.Bool.{true}
 use mathlib.Core.List.{List, [], _∷_, _++_}
 use native.Mathlib.Omega.{arith}
-use borrow.Author.Tests.{lt-ltb, le-leb, le-ltb}
+use borrow.Author.Tests.{lt-ltb, le-leb}
 use lib.Dec.{T}
 use lib.ListN.{length, drop, set, replicate, length-append, length-drop, length-set, length-replicate, take-append-drop}
 use lib.Seq.{take-append-seam, drop-append-seam, set-append-seam, set-append-left, append-snoc, length-take-le}
@@ -15,7 +15,7 @@ use Rattle.kinds.specs.declared.Reader.{Reader}
 use Rattle.readers.specs.declared.Readers.{Readers}
 use Rattle.readers.specs.Lists.{every, without}
 use Rattle.readers.specs.Same.{sameReader}
-use Rattle.readers.specs.Listed.{live, blankReader, listed, blankPast, noReaders, pushed, putAt, removedAt}
+use Rattle.readers.specs.Listed.{live, blankReader, listed, blankPast, pushed, putAt, removedAt}
 use Rattle.readers.proofs.Tests.{halves}
 use Rattle.readers.proofs.Lists.{length-without, every-replicate}
 use Rattle.readers.proofs.Equal.{same-refl, same-is}
@@ -28,7 +28,8 @@ pub length-listed : (l : List Reader) → length l ≤ capacity → length (list
 length-listed l h = simp (length-append, length-replicate) (omega arith)
 
 pub blank-listed : (l : List Reader) → T (blankPast (listed l))
-blank-listed l = rw drop-append-seam (every-replicate (sameReader blankReader) (capacity - length l) blankReader (same-refl blankReader))
+blank-listed l =
+    rw drop-append-seam (every-replicate (sameReader blankReader) (capacity - length l) blankReader (same-refl blankReader))
 
 -- ---- an array that is well kept is the array of its list
 -- readers that are all x are copies of x
@@ -44,16 +45,13 @@ module _ (rs : Readers) (full : length (rs .items) ≡ capacity) (fits : rs .len
 
   pub listed-live : T (blankPast rs) → rs ≡ listed (live rs)
   listed-live t =
-      let n : length (drop (rs .len) (rs .items)) ≡ capacity - length (live rs) = simp (length-drop, length-live) (omega arith) in
-      let rest : drop (rs .len) (rs .items) ≡ replicate (capacity - length (live rs)) blankReader = same-all blankReader (drop (rs .len) (rs .items)) t ∙ rw n in
+      let later = drop (rs .len) (rs .items) in
+      let n : length later ≡ capacity - length (live rs) = simp (length-drop, length-live) (omega arith) in
+      let rest : later ≡ replicate (capacity - length (live rs)) blankReader = same-all blankReader later t ∙ rw n in
       let whole : rs .items ≡ listed (live rs) .items = sym (take-append-drop (rs .len) (rs .items)) ∙ rw rest in
       λ i. record { items = whole i; len = sym length-live i }
 
 -- ---- the changes
-pub empty-listed : noReaders ≡ listed []
-unfolding noReaders
-empty-listed = refl
-
 module _ (l : List Reader) (r : Reader) where
   pub pushed-listed : length l < capacity → pushed (listed l) r ≡ record { ok = true; readers = listed (l ++ r ∷ []) }
   unfolding pushed
@@ -62,16 +60,12 @@ module _ (l : List Reader) (r : Reader) where
       let f : capacity - length l ≡ suc (capacity - (length l + 1)) = omega arith in
       simp (lt-ltb _ _ h) (rw (e, f, set-append-seam, append-snoc))
 
-  -- no room: nothing changes
-  pub pushed-full : capacity ≤ length l → pushed (listed l) r ≡ record { ok = false; readers = listed l }
-  unfolding pushed
-  pushed-full h = simp (le-ltb _ _ h)
-
   pub put-listed : (at : ℕ) → length l ≤ capacity → at < length l → putAt (listed l) at r ≡ listed (set l at r)
   unfolding putAt
   put-listed at h k = simp (le-leb _ _ h, lt-ltb _ _ k) (rw (length-set, set-append-left))
 
-pub removed-listed : (l : List Reader) (at : ℕ) → length l ≤ capacity → at < length l → removedAt (listed l) at ≡ listed (without at l)
+pub removed-listed : (l : List Reader) (at : ℕ) → length l ≤ capacity → at < length l
+    → removedAt (listed l) at ≡ listed (without at l)
 unfolding removedAt
 removed-listed l at h k =
     let n : length (without at l) ≡ length l - 1 = omega (arith, length-without l at k) in

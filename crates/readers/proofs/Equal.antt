@@ -23,7 +23,10 @@ phase-is (Phase.Obtained v) Phase.Pending2 t = absurd t
 phase-is (Phase.Obtained v) (Phase.Obtained w) t = ap Phase.Obtained (eqb→eq v w t)
 
 pub same-refl : (r : Reader) → T (sameReader r r)
-same-refl r = both (samePhase (r .phase) (r .phase)) (eqb (r .bucket .0) (r .bucket .0)) (phase-refl (r .phase)) (eqb-refl (r .bucket .0))
+same-refl r =
+    both (samePhase (r .phase) (r .phase)) (eqb (r .bucket .0) (r .bucket .0))
+    (phase-refl (r .phase))
+    (eqb-refl (r .bucket .0))
 
 pub same-is : (r s : Reader) → T (sameReader r s) → r ≡ s
 same-is r s t =

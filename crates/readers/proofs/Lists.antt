@@ -1,21 +1,21 @@
--- Laws of `tally`, `every` and `without`, over any element type: what each says after the list grows, loses or changes an entry.
--- In order: `without` by recursion, at a seam, and its length; `every` of two lists and of parts, after each change, at an entry,
--- and of two tests; `tally` of two lists, after each change, and what it says of the entries.
+-- Laws of `tally`, `every` and `without`, over any element type: what each says after the list grows, loses or changes an
+-- entry. In order: `without` at a seam, past the end, and its length; `every` of two lists and of parts, after each change, at
+-- an entry, and of two tests; `tally` of two lists, after each change, and what it says of the entries.
 -- `set` at a seam is `set-append-seam` of lib.Seq. Assumes nothing.
 use Prim.Native.Nat.{ℕ, zero, suc, _+_, _<_, _≤_}
 use mathlib.Core.Path.{_≡_, refl}
 use mathlib.Core.Bool.{Bool, true, false, cond, not, _&&_}
-use mathlib.Core.List.{List, [], _∷_, _++_}
+use mathlib.Core.List.{List, [], _∷_, _++_, append-nil}
 use native.Mathlib.Nat.{suc-add}
 use native.Mathlib.Omega.{arith}
 use lib.Dec.{T}
-use lib.ListN.{length, take, drop, getD, set, replicate, length-append, length-take, length-drop, take-append-drop}
-use lib.Seq.{take-append-seam, drop-append-add}
+use lib.ListN.{length, take, drop, getD, set, replicate, length-append, length-take, length-drop, take-append-drop, drop-of-length-le}
+use lib.Seq.{take-append-seam, drop-append-add, take-all}
 use Rattle.readers.specs.Lists.{tally, every, without}
 use Rattle.readers.proofs.Tests.{both, halves}
 
 -- what one entry adds to a tally
-one-le : (t : Bool) → cond t 1 0 ≤ 1
+pub one-le : (t : Bool) → cond t 1 0 ≤ 1
 one-le true = omega arith
 one-le false = omega arith
 
@@ -27,26 +27,18 @@ none-is : (t : Bool) → _≡_ {A = ℕ} (cond t 1 0) 0 → T (not t)
 none-is true e = omega arith
 none-is false e = tt
 
--- n entries add n, or nothing
-copies : (t : Bool) (n : ℕ) → cond t 1 0 + cond t n 0 ≡ cond t (suc n) 0
-copies true n = omega arith
-copies false n = refl
-
-no-copies : (t : Bool) → _≡_ {A = ℕ} 0 (cond t 0 0)
-no-copies true = refl
-no-copies false = refl
-
 module _ {A : Type 0} where
   -- ---- without
-  pub without-zero : (x : A) (xs : List A) → without 0 (x ∷ xs) ≡ xs
-  without-zero x xs = refl
-
-  pub without-suc : (i : ℕ) (x : A) (xs : List A) → without (suc i) (x ∷ xs) ≡ x ∷ without i xs
-  without-suc i x xs = rw suc-add
-
   -- the entry at the seam goes
-  pub without-split : (before : List A) (x : A) (after : List A) → without (length before) (before ++ x ∷ after) ≡ before ++ after
+  pub without-split : (before : List A) (x : A) (after : List A)
+      → without (length before) (before ++ x ∷ after) ≡ before ++ after
   without-split before x after = rw (take-append-seam, drop-append-add before (x ∷ after) 1)
+
+  -- past the end nothing goes
+  pub without-out : (l : List A) (i : ℕ) → length l ≤ i → without i l ≡ l
+  without-out l i h =
+      let past : length l ≤ i + 1 = omega arith in
+      rw (take-all i l, drop-of-length-le l {i = i + 1}, append-nil)
 
   pub length-without : (l : List A) (i : ℕ) → i < length l → length (without i l) + 1 ≡ length l
   length-without l i h = simp (length-append, length-take, length-drop) (omega arith)
@@ -94,6 +86,12 @@ module _ {A : Type 0} where
     every-at (x ∷ l) zero d t h = halves (test x) (every test l) t .0
     every-at (x ∷ l) (suc i) d t h = every-at l i d (halves (test x) (every test l) t .1) (omega arith)
 
+    -- an entry that is read past the end is the default
+    pub every-default : (l : List A) (i : ℕ) (d : A) → T (every test l) → T (test d) → T (test (getD l i d))
+    every-default [] i d t u = u
+    every-default (x ∷ l) zero d t u = halves (test x) (every test l) t .0
+    every-default (x ∷ l) (suc i) d t u = every-default l i d (halves (test x) (every test l) t .1) u
+
     pub every-replicate : (n : ℕ) (x : A) → T (test x) → T (every test (replicate n x))
     every-replicate zero x t = tt
     every-replicate (suc n) x t = both (test x) (every test (replicate n x)) t (every-replicate n x t)
@@ -129,7 +127,8 @@ module _ {A : Type 0} where
     tally-put (y ∷ l) zero x d h = omega arith
     tally-put (y ∷ l) (suc i) x d h = omega (arith, tally-put l i x d (omega arith))
 
-    pub tally-without : (l : List A) (i : ℕ) (d : A) → i < length l → tally test (without i l) + cond (test (getD l i d)) 1 0 ≡ tally test l
+    pub tally-without : (l : List A) (i : ℕ) (d : A) → i < length l
+        → tally test (without i l) + cond (test (getD l i d)) 1 0 ≡ tally test l
     tally-without [] i d h = absurd (omega arith)
     tally-without (x ∷ l) zero d h = omega arith
     tally-without (x ∷ l) (suc i) d h = rw suc-add (omega (arith, tally-without l i d (omega arith)))
@@ -146,7 +145,3 @@ module _ {A : Type 0} where
 
     pub tally-positive : (l : List A) (i : ℕ) (d : A) → i < length l → T (test (getD l i d)) → 1 ≤ tally test l
     tally-positive l i d h t = omega (arith, tally-without l i d h, one-is (test (getD l i d)) t)
-
-    pub tally-replicate : (n : ℕ) (x : A) → tally test (replicate n x) ≡ cond (test x) n 0
-    tally-replicate zero x = no-copies (test x)
-    tally-replicate (suc n) x = rw (tally-replicate n x) (copies (test x) n)

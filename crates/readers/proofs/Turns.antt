@@ -1,20 +1,25 @@
--- One turn of each loop of the crate, as laws over any element type and any list. In order: a look at one entry after the other
--- (`next`, `turn`, with the ends `past` and `past-all`); a count of those that pass a test (`Counting`); a gap that is closed
--- (`moved`, `stands`, with the end `closed-at`). Assumes nothing.
+-- One turn of each loop over readers, here and in the crates above, as laws over any element type and any list. In order: a
+-- look at one entry after the other (`next`, `turn`, with the ends `past` and `past-all`); a count of those that pass a test
+-- (`Counting`); whether all pass it (`Passing`); a gap that is closed (`moved`, `stands`, with the end `closed-at`). Assumes
+-- nothing.
 use Prim.Native.Nat.{ℕ, suc, _+_, _-_, _<_, _≤_, min}
-use mathlib.Core.Path.{_≡_}
+use mathlib.Core.Path.{_≡_, _∙_, sym}
 use mathlib.Core.Bool.{Bool, true, false}
 use mathlib.Core.List.{List, [], _∷_, _++_}
 use native.Mathlib.Omega.{arith}
 use native.Mathlib.Numerals.{add-one}
 use lib.ListN.{length, take, drop, getD, set, drop-of-length-le, length-take, length-drop}
 use lib.Seq.{drop-cons, getD-take, getD-drop, paste, paste-suc, drop-paste, length-paste-head, take-add, drop-at, length-take-le, take-take, set-at}
-use Rattle.readers.specs.Lists.{tally, without}
+use Rattle.readers.specs.Lists.{tally, every, without}
 
 -- n of the first i entries pass: with those that are left, that is the tally of an array's first `len`
 pub record Counting {A : Type 0} (test : A → Bool) (items : List A) (len n i : ℕ) : Type 0 where
   pub few : n ≤ i
   pub whole : n + tally test (drop i (take len items)) ≡ tally test (take len items)
+
+-- all pass just if those do that are left of an array's first `len`, from i on
+pub record Passing {A : Type 0} (test : A → Bool) (all items : List A) (len i : ℕ) : Type 0 where
+  pub whole : every test all ≡ every test (drop i (take len items))
 
 module _ {A : Type 0} where
   -- ---- one entry after the other: the entry at i, and then what is left after it
@@ -58,6 +63,19 @@ module _ {A : Type 0} where
           let e = simp (turn d, t) at (so-far .whole) in
           record { few = omega arith; whole = omega arith }
 
+  -- ---- whether all pass
+  module _ {test : A → Bool} {all items : List A} {len i : ℕ} (so-far : Passing test all items len i) where
+    -- none is left
+    pub all-pass : min len (length items) ≤ i → true ≡ every test all
+    all-pass h = sym (so-far .whole ∙ simp (spent items len i))
+
+    module _ (d : A) (h : i < len) (k : i < length items) where
+      pub one-fails : test (getD items i d) ≡ false → false ≡ every test all
+      one-fails t = sym (so-far .whole ∙ simp (turn d, t))
+
+      pub one-passes : test (getD items i d) ≡ true → Passing test all items len (i + 1)
+      one-passes t = record { whole = so-far .whole ∙ simp (turn d, t) }
+
   -- ---- a gap is closed: the later entries move down, one after the other
   module _ (old : List A) (at n : ℕ) (b : A) where
     -- the next of the later entries moves down
@@ -83,12 +101,14 @@ module _ {A : Type 0} where
     closed h =
         let s = drop (at + 1) old in
         let inside : at + n < length old = omega arith in
-        let front : length (take at old ++ take n s) ≡ at + n = length-paste-head old at s n (omega arith) (simp length-drop (omega arith)) in
+        let front : length (take at old ++ take n s) ≡ at + n =
+        length-paste-head old at s n (omega arith) (simp length-drop (omega arith)) in
         let later : drop (at + 1) (take (at + 1 + n) old) ≡ take n s =
         rw take-add (drop-at (take (at + 1) old) (take n s) (at + 1) (length-take-le (at + 1) old (omega arith))) in
         let early : take at (take (at + 1 + n) old) ≡ take at old = take-take at (at + 1 + n) old (omega arith) in
         let next : suc (at + n) ≡ at + 1 + n = omega arith in
-        rw (drop-cons old (at + n) b, set-at (take at old ++ take n s) (getD old (at + n) b) (drop (suc (at + n)) old) b (at + n), later, early, next)
+        let put = set-at (take at old ++ take n s) (getD old (at + n) b) (drop (suc (at + n)) old) b (at + n) in
+        rw (drop-cons old (at + n) b, put, later, early, next)
 
     pub closed-at : (len : ℕ) → len ≤ length old → len ≡ at + 1 + n
         → set (paste old at (drop (at + 1) old) n) (len - 1) b ≡ without at (take len old) ++ b ∷ drop len old

@@ -58,7 +58,7 @@ abbrev pub countIn : ℕ → ℕ → List Reader → ℕ
 countIn b phase l = tally (isIn b phase) l
 
 -- ---- changing
--- no readers: 64 blanks
+-- no readers: blanks alone
 unfoldable pub noReaders : Readers
 noReaders = listed []
 

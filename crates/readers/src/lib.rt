@@ -1,5 +1,6 @@
-// The bounded list of readers, by value: 64 entries, of which the first `len` count. Every function takes any value of its
-// types, also a length above the capacity or a place past the length, and its promise is an equation.
+// The bounded list of readers, by value: an array as long as the capacity, of which the first `len` entries count. Every
+// function takes any value of its types, also a length above the capacity or a place past the length, and its promise is an
+// equation.
 ghost use mathlib.Core.Path.{_≡_};
 ghost use Rattle.readers.specs.Same.{samePhase, sameReader};
 ghost use Rattle.readers.specs.Listed.{live, blankReader, blankPast, findIn, countAt, isIn, countIn, noReaders, pushed, putAt, removedAt};
@@ -9,11 +10,13 @@ use kinds::Phase;
 use kinds::Reader;
 use kinds::phase_number;
 
+// The array, and how many of its entries count.
 pub struct Readers {
     pub items: [Reader; CAPACITY],
     pub len: usize,
 }
 
+// What a search answers: a place, or that there is none.
 pub enum Found {
     At(usize),
     Nowhere,
@@ -25,6 +28,7 @@ pub struct Pushed {
     pub readers: Readers,
 }
 
+// Whether two phases are the same, with the same value where they have one.
 fn same_phase(a: Phase, b: Phase) -> bool
     ensures { λ r. ⌜ r ≡ samePhase a b ⌝ }
 {

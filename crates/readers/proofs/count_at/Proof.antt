@@ -1,6 +1,6 @@
 -- `readers::count_at` meets its contract. The loop's invariant: what is counted so far and what is still to count are the
 -- whole count (`Counting`); a turn counts one more or passes one over, by the test on the bucket. Assumes nothing.
-use Prim.Native.Nat.{_<_, _-_}
+use Prim.Native.Nat.{_-_}
 use mathlib.Core.Path.{_≡_}
 use mathlib.Core.Logic.{⊎-elim}
 use native.Mathlib.Omega.{arith}
@@ -20,7 +20,9 @@ abbrev μ-loop : tie.MeasureT-loop
 μ-loop bucket items len n₀ i₀ n i = capacity - i
 
 loop-holds : tie.Need-loop-holds Inv-loop μ-loop
-loop-holds c = (simp length-map at (c .before .good .0 .1 .1 .0 .1 .0 .1), record { few = search needs; whole = search needs })
+loop-holds c =
+    let full = simp length-map at (c .before .good .0 .1 .1 .0 .1 .0 .1) in
+    (full, record { few = search needs; whole = search needs })
 
 returns : tie.Need-returns Inv-loop μ-loop
 returns c = counted (c .before .before .loop .inv .1) (omega arith)
@@ -28,12 +30,11 @@ returns c = counted (c .before .before .loop .inv .1) (omega arith)
 loop-again : tie.Need-loop-again Inv-loop μ-loop
 loop-again c =
     let p = c .before .before .before .before .before in
-    let so-far = p .before .before .loop .inv .1 in
-    let k : p .before .before .loop .i < length (p .before .before .before .before .args .rs .items) = omega (arith, p) in (
-      p .before .before .loop .inv .0,
+    let so-far = p .before .before .loop .inv in (
+      so-far .0,
       ⊎-elim
-          (λ w. rw (w .1) (one-more so-far blankReader (p .if1 .left) k (eq-eqb _ _ (w .0 .taken))))
-          (λ w. rw (w .1) (passed-over so-far blankReader (p .if1 .left) k (ne-eqb _ _ (w .0 .left))))
+          (λ w. rw (w .1) (one-more (so-far .1) blankReader (p .if1 .left) (omega arith) (eq-eqb _ _ (w .0 .taken))))
+          (λ w. rw (w .1) (passed-over (so-far .1) blankReader (p .if1 .left) (omega arith) (ne-eqb _ _ (w .0 .left))))
           (c .if2 .came),
     )
 
@@ -43,4 +44,13 @@ returns-2 c = counted (c .before .loop .inv .1) (omega arith)
 pub count-at-spec : {M : Type 1} → statement M
 count-at-spec =
     tie.close
-    (tie.spec Inv-loop μ-loop loop-holds returns (λ c. search needs) (λ c. search needs) (λ c. search needs) (λ c. search needs) (λ c. search needs) loop-again returns-2)
+    (tie.spec Inv-loop μ-loop
+    loop-holds
+    returns
+    (λ c. search needs)
+    (λ c. search needs)
+    (λ c. search needs)
+    (λ c. search needs)
+    (λ c. search needs)
+    loop-again
+    returns-2)

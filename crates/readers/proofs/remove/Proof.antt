@@ -30,17 +30,22 @@ loop-holds : tie.Need-loop-holds Inv-loop μ-loop
 loop-holds c =
     let b = c .before .before .before in
     let a = b .args in
-    record { within = search needs; full = simp length-map at (b .good .0 .1 .1 .0 .1 .0 .1); whole = paste-zero (a .rs .items) (a .at) (drop (a .at + 1) (a .rs .items)) }
+    record {
+      within = search needs;
+      full = simp length-map at (b .good .0 .1 .1 .0 .1 .0 .1);
+      whole = paste-zero (a .rs .items) (a .at) (drop (a .at + 1) (a .rs .items));
+    }
 
 loop-again : tie.Need-loop-again Inv-loop μ-loop
 loop-again c =
     let a = c .before .before .before .before .before .before .args in
     let l = c .before .before .loop in
-    let h : a .at + 1 + l .k < length (a .rs .items) = omega arith in
+    let old = a .rs .items in
+    let h : a .at + 1 + l .k < length old = omega arith in
     record {
       within = omega arith;
       full = l .inv .full;
-      whole = rw (l .inv .whole, stands (a .rs .items) (a .at) (l .k) blankReader h) (moved (a .rs .items) (a .at) (l .k) blankReader h);
+      whole = rw (l .inv .whole, stands old (a .at) (l .k) blankReader h) (moved old (a .at) (l .k) blankReader h);
     }
 
 returns-3 : tie.Need-returns-3 Inv-loop μ-loop
@@ -52,7 +57,8 @@ returns-3 c =
     let h : a .rs .len ≤ length (a .rs .items) = omega arith in
     let t : a .at < a .rs .len = omega arith in
     let u : a .rs .len ≤ capacity = omega arith in
-    simp (l .inv .whole, c .blank .ensures, closed-at (a .rs .items) (a .at) (l .k) blankReader (a .rs .len) h e, lt-ltb _ _ t, le-leb _ _ u)
+    let closed = closed-at (a .rs .items) (a .at) (l .k) blankReader (a .rs .len) h e in
+    simp (l .inv .whole, c .blank .ensures, closed, lt-ltb _ _ t, le-leb _ _ u)
 
 pub remove-spec : {M : Type 1} → statement M
 unfolding removedAt

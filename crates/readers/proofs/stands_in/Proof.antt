@@ -1,4 +1,5 @@
--- `readers::stands_in` meets its contract: each return, by the test on the bucket and what `phase_number` ensures. Assumes nothing.
+-- `readers::stands_in` meets its contract: each return, by the test on the bucket and what `phase_number` ensures. Assumes
+-- nothing.
 use borrow.Author.Tests.{eq-eqb, ne-eqb}
 use Rattle.readers.proofs.stands_in.Statement.{statement}
 use Rattle.readers.proofs.stands_in.Tie as tie

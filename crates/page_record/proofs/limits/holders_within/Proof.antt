@@ -2,6 +2,20 @@
 use Rattle.page_record.proofs.limits.holders_within.Statement.{statement}
 use Rattle.page_record.proofs.limits.holders_within.Tie as tie
 
+returns : tie.Need-returns
+returns c =
+    let loader = c .before in
+    let editor = loader .before in
+    let visited = editor .before in
+    let load = visited .before in
+    simp (
+      loader .valid-bucket2 .ensures,
+      editor .valid-bucket .ensures,
+      visited .exc-visited .ensures,
+      load .loading-bucket .ensures,
+      load .before .exc-bucket .ensures,
+    )
+
 pub holders-within-spec : {M : Type 1} → statement M
 holders-within-spec =
     tie.close
@@ -11,4 +25,4 @@ holders-within-spec =
     (λ c κs. tt)
     (λ c κs. tt)
     (λ c κs. tt)
-    (λ c. simp (c .before .valid-bucket2 .ensures, c .before .before .valid-bucket .ensures, c .before .before .before .exc-visited .ensures, c .before .before .before .before .loading-bucket .ensures, c .before .before .before .before .before .exc-bucket .ensures)))
+    returns)

@@ -1,5 +1,5 @@
 -- `page_record::limits::readers_within` meets its contract: each clause is what its test or its call ensures, and an array of
--- readers always has its 64 entries. Assumes nothing.
+-- readers always has all its entries. Assumes nothing.
 use mathlib.Core.Bool.{and-true}
 use borrow.Author.Tests.{eq-eqb}
 use lib.ListN.{length-map}

@@ -1,5 +1,5 @@
--- `page_record::references::count_all_refs` meets its contract, and neither sum wraps: at most 64 readers are listed, and two
--- holders add one each. Assumes nothing.
+-- `page_record::references::count_all_refs` meets its contract, and neither sum wraps: no more readers are listed than the
+-- capacity, and two holders add one each. Assumes nothing.
 use native.Mathlib.Omega.{arith}
 use borrow.Author.Needs.{needs}
 use lib.ListN.{length-map}

@@ -1,5 +1,5 @@
--- `page_record::rows::counted` meets its contract: at most 64 readers are listed, so their number fits a count. Assumes
--- nothing.
+-- `page_record::rows::counted` meets its contract: no more readers are listed than the capacity, so their number fits a
+-- count. Assumes nothing.
 use native.Mathlib.Omega.{arith}
 use lib.ListN.{length-map}
 use Rattle.readers.specs.Listed.{isIn}

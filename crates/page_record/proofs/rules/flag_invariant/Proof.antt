@@ -4,6 +4,24 @@ use borrow.Author.Needs.{needs}
 use Rattle.page_record.proofs.rules.flag_invariant.Statement.{statement}
 use Rattle.page_record.proofs.rules.flag_invariant.Tie as tie
 
+unmapped : tie.Need-returns
+unmapped c =
+    let load = c .before in
+    let exc = load .before in
+    simp (c .no-writeback .ensures, load .no-load .ensures, exc .no-exc .ensures, exc .before .enum-told .given .1)
+
+available : tie.Need-returns-4
+available c =
+    let load = c .before in
+    let exc = load .before in
+    simp (c .no-writeback4 .ensures, load .no-load2 .ensures, exc .no-exc2 .ensures, exc .before .enum-told4 .given .1)
+
+writeback : tie.Need-returns-6
+writeback c =
+    let load = c .before in
+    let exc = load .before in
+    simp (c .no-writeback6 .ensures, load .no-load3 .ensures, exc .no-exc3 .ensures, exc .before .enum-told6 .given .1)
+
 pub flag-invariant-spec : {M : Type 1} → statement M
 flag-invariant-spec =
     tie.close
@@ -44,12 +62,12 @@ flag-invariant-spec =
     (λ c. search needs)
     (λ c κs. tt)
     (λ c κs. tt)
-    (λ c. simp (c .no-writeback .ensures, c .before .no-load .ensures, c .before .before .no-exc .ensures, c .before .before .before .enum-told .given .1))
+    unmapped
     (λ c. simp (c .no-writeback2 .ensures, c .before .is-loaded .ensures, c .before .before .enum-told2 .given .1))
     (λ c. simp (c .no-writeback3 .ensures, c .before .is-before .ensures, c .before .before .enum-told3 .given .1))
-    (λ c. simp (c .no-writeback4 .ensures, c .before .no-load2 .ensures, c .before .before .no-exc2 .ensures, c .before .before .before .enum-told4 .given .1))
+    available
     (λ c. simp (c .no-writeback5 .ensures, c .before .is-claim .ensures, c .before .before .enum-told5 .given .1))
-    (λ c. simp (c .no-writeback6 .ensures, c .before .no-load3 .ensures, c .before .before .no-exc3 .ensures, c .before .before .before .enum-told6 .given .1))
+    writeback
     (λ c. simp (c .no-writeback7 .ensures, c .before .is-claim2 .ensures, c .before .before .enum-told7 .given .1))
     (λ c. simp (c .no-writeback8 .ensures, c .before .is-await .ensures, c .before .before .enum-told8 .given .1))
     (λ c. simp (c .no-writeback9 .ensures, c .before .is-await2 .ensures, c .before .before .enum-told9 .given .1))

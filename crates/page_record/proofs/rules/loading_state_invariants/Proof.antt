@@ -4,6 +4,13 @@ use borrow.Author.Needs.{needs}
 use Rattle.page_record.proofs.rules.loading_state_invariants.Statement.{statement}
 use Rattle.page_record.proofs.rules.loading_state_invariants.Tie as tie
 
+counted : tie.Need-returns-3
+counted c =
+    let writeback = c .before in
+    let bucket = writeback .before in
+    let arm = bucket .before .before in
+    simp (c .valid-bucket .ensures, writeback .no-writeback2 .ensures, bucket .has-bucket .ensures, arm .l .given .1)
+
 pub loading-state-invariants-spec : {M : Type 1} → statement M
 loading-state-invariants-spec =
     tie.close
@@ -19,5 +26,5 @@ loading-state-invariants-spec =
     (λ c κs. tt)
     (λ c. search needs)
     (λ c. search needs)
-    (λ c. simp (c .valid-bucket .ensures, c .before .no-writeback2 .ensures, c .before .before .has-bucket .ensures, c .before .before .before .before .l .given .1))
+    counted
     (λ c. search needs))

@@ -2,6 +2,12 @@
 use Rattle.page_record.proofs.rules.may_hold.Statement.{statement}
 use Rattle.page_record.proofs.rules.may_hold.Tie as tie
 
+returns : tie.Need-returns
+returns c =
+    let load = c .before in
+    let lets = load .before in
+    simp (c .is-unmapped .ensures, load .no-load .ensures, lets .exc-lets .ensures, lets .before .holds .ensures)
+
 pub may-hold-spec : {M : Type 1} → statement M
 may-hold-spec =
     tie.close
@@ -10,4 +16,4 @@ may-hold-spec =
     (λ c κs. tt)
     (λ c κs. tt)
     (λ c κs. tt)
-    (λ c. simp (c .is-unmapped .ensures, c .before .no-load .ensures, c .before .before .exc-lets .ensures, c .before .before .before .holds .ensures)))
+    returns)

@@ -1,5 +1,6 @@
 -- `page_record::rules::ref_count_invariant` meets its contract: an array of four has a count for each bucket, and the four
 -- calls test each. Assumes nothing.
+use Prim.Native.Nat.{ℕ}
 use mathlib.Core.Path.{refl, sym}
 use borrow.Author.Needs.{needs}
 use borrow.Author.Tests.{eq-eqb}
@@ -20,8 +21,10 @@ returns c =
     let s = r .before .before in
     let a = s .args in
     let four = eq-eqb _ _ (s .good .0 .1 .0 .1) in
-    let each = every-four (λ b. eqb (numberAt (a .t1) b) (countAllRefs (live (a .readers)) (a .e) (a .l) b)) 0 everyBucket refl in
-    simp (c .count-right4 .ensures, p .count-right3 .ensures, q .count-right2 .ensures, r .count-right .ensures, four) (sym each)
+    let refs : ℕ → ℕ = λ b. countAllRefs (live (a .readers)) (a .e) (a .l) b in
+    let each = every-four (λ b. eqb (numberAt (a .t1) b) (refs b)) 0 everyBucket refl in
+    simp (c .count-right4 .ensures, p .count-right3 .ensures, q .count-right2 .ensures, r .count-right .ensures, four)
+    (sym each)
 
 pub ref-count-invariant-spec : {M : Type 1} → statement M
 ref-count-invariant-spec =
