@@ -26,7 +26,7 @@ use Rattle.lock.proofs.Keeps.{refused-keeps-all}
 use Rattle.lock.proofs.Least.{step-known, least-number}
 use Rattle.wire.specs.declared.Reading.{Reading}
 use Rattle.wire.specs.Buffers.{answerFor}
-use Rattle.wire.specs.Bytes.{blank, part}
+use Rattle.wire.specs.Bytes.{zerosAt, valueAt, blank, part}
 use Rattle.wire.specs.Requests.{fieldsOf, readingOf, readOf, orBadField, wroteAnswer}
 use Rattle.wire.proofs.Buffers.{write-past, write-untouched}
 use Rattle.wire.proofs.Lowest.{read-lowest, write-lowest}
@@ -95,9 +95,9 @@ module _ (p : Page) (l : List ℕ) (sound : soundOf p ≡ true) (sixteen : lengt
 
   pub line-number : answerNumber (turnOf p l .answer) ≡ firstBroken 1 (map not (applyingLine p l))
   unfolding turnOf judged
-  line-number = go (blank (part 3 8 l)) refl
+  line-number = go (blank (part zerosAt valueAt l)) refl
     where
-      go : (zeros : Bool) → blank (part 3 8 l) ≡ zeros → answerNumber (turnOf p l .answer) ≡ firstBroken 1 (map not (applyingLine p l))
+      go : (zeros : Bool) → blank (part zerosAt valueAt l) ≡ zeros → answerNumber (turnOf p l .answer) ≡ firstBroken 1 (map not (applyingLine p l))
       go true z =
           let read = ap (onReading p) (sym (read-fields l sixteen z)) ∙ as-step (judged q) refl in
           ap (λ (o : Outcome). answerNumber (o .answer)) read ∙ least-number p q ∙ rw (z, or-no (applies3 q))

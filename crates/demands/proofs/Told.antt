@@ -36,9 +36,9 @@ use Rattle.steps.specs.Setters.{raise, lower}
 use Rattle.steps.specs.Premises.{Step, Passes, verdict, settled}
 use Rattle.steps.specs.Requests.{formal, judged}
 use Rattle.steps.specs.Decide.{stepAt, soughtOf, decideOf}
-use Rattle.steps.specs.Answers.{refusalNumber}
 use Rattle.steps.specs.Steps.{isFound, reader}
 use Rattle.steps.proofs.Verdicts.{passed}
+use Rattle.steps.proofs.Reasons.{refusal-positive}
 use Rattle.lock.specs.Step.{lookFor, stepped, stepOf}
 use Rattle.lock.proofs.Counts.{number-raise, number-lower}
 use Rattle.lock.proofs.MoveFacts.{granted}
@@ -208,29 +208,13 @@ module _ (fresh : ℕ) (h : Head) (l : List Reader) (b : Bucket) (clean value : 
       & tt
 
 -- ---- one request
--- a refusal has a number of its own, so the history's sums do not see it
-refusal-number : (why : Refusal) → eqb (refusalNumber why) 0 ≡ false
-refusal-number Refusal.Unsound = refl
-refusal-number Refusal.UnknownStep = refl
-refusal-number Refusal.BadField = refl
-refusal-number Refusal.BadBucket = refl
-refusal-number Refusal.WrongFlag = refl
-refusal-number Refusal.NoHolder = refl
-refusal-number Refusal.WrongBucket = refl
-refusal-number Refusal.WrongVisited = refl
-refusal-number Refusal.OtherCount = refl
-refusal-number Refusal.AtCeiling = refl
-refusal-number Refusal.ListFull = refl
-refusal-number Refusal.NotWhole = refl
-refusal-number Refusal.TooMany = refl
-refusal-number Refusal.NoRoom = refl
-
+-- a refusal has a number above 0, so the history's sums do not see it
 pub refused-tells : (fresh : ℕ) (h : Head) (past : List Event) (q : Request) (why : Refusal) → Told fresh h past → Told fresh h (record { request = q; answer = Answer.Refused why } ∷ past)
 refused-tells fresh h past q why told =
     record {
-      balance = λ x. rw (refusal-number why) (omega (arith, told .balance x));
-      stored = rw (refusal-number why) (told .stored);
-      counted = λ t. rw (refusal-number why) (told .counted t);
+      balance = λ x. rw (refusal-positive why) (omega (arith, told .balance x));
+      stored = rw (refusal-positive why) (told .stored);
+      counted = λ t. rw (refusal-positive why) (told .counted t);
       handed = (λ t. absurd t, told .handed);
     }
 

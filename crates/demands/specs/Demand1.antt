@@ -19,7 +19,7 @@ use Rattle.lock.specs.Applies.{applies1, applies2, applies3, applies4, applies5
 use Rattle.wire.specs.declared.Reading.{Reading}
 use Rattle.wire.specs.Answers.{lineOf}
 use Rattle.wire.specs.Buffers.{answerFor}
-use Rattle.wire.specs.Bytes.{blank, part}
+use Rattle.wire.specs.Bytes.{zerosAt, valueAt, blank, part}
 use Rattle.wire.specs.Requests.{fieldsOf, readable, readingOf, readOf, writable, wroteAnswer, wroteTo}
 use Rattle.wire.proofs.Lowest.{Lowest, readOrder}
 use Rattle.replay.specs.Turns.{turnOf}
@@ -58,7 +58,7 @@ applyingLine p l =
     let q = fieldsOf l in
     applies1 p
     ∷ applies2 q
-    ∷ (applies3 q || not (blank (part 3 8 l)))
+    ∷ (applies3 q || not (blank (part zerosAt valueAt l)))
     ∷ applies4 q
     ∷ applies5 p q
     ∷ applies6 p q

@@ -1,7 +1,7 @@
 -- Demand 2: a well-formed request on a sound record is accepted exactly when the source's transition, with document 01's
 -- changes, allows it and the limits leave room; the next record and any withdrawn value are that transition's. Requests read
 -- from bytes and written back agree both ways.
-use Prim.Native.Nat.{ℕ, _<_, _/_, _^_}
+use Prim.Native.Nat.{ℕ, _<_, _/_}
 use mathlib.Core.Path.{_≡_}
 use mathlib.Core.Logic.{_↔_}
 use mathlib.Core.List.{List}
@@ -19,6 +19,7 @@ use Rattle.steps.specs.Requests.{judged}
 use Rattle.lock.specs.Step.{stepOf}
 use Rattle.lock.specs.Moves.{Moves, Room, stateOf, answerOf}
 use Rattle.wire.specs.declared.Reading.{Reading}
+use Rattle.wire.specs.Bytes.{valueLimit}
 use Rattle.wire.specs.Requests.{readOf, bytesOf, InRange, wroteAnswer, wroteTo}
 use Rattle.wire.proofs.Bytes.{Bytes}
 use Rattle.replay.specs.Turns.{turnOf}
@@ -46,7 +47,7 @@ Demand2Run =
 
 pub record Demand2Bytes : Type 0 where
   -- written and read again
-  pub write-read : (q : Request) → judged q ≡ Verdict.Passed → q .value < 256 ^ 8 → readOf (bytesOf q) ≡ Reading.Request q
+  pub write-read : (q : Request) → judged q ≡ Verdict.Passed → q .value < valueLimit → readOf (bytesOf q) ≡ Reading.Request q
   -- read and written again
   pub read-write : (l : List ℕ) (q : Request) → Bytes l → readOf l ≡ Reading.Request q → bytesOf q ≡ l
   -- what reading accepts is exactly what writing produces

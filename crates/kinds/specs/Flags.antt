@@ -60,7 +60,7 @@ isUnmapped Flag.PendingExcLock = false
 isUnmapped Flag.ExcLockClean = false
 isUnmapped Flag.ExcLockDirty = false
 
--- step 23, lines 407 to 412: the five flags under which no editor shuts readers out
+-- step 23, lines 407 to 412: the five flags under which a reader passes the first check
 abbrev pub openToReaders : Flag → Bool
 openToReaders Flag.Unmapped = false
 openToReaders Flag.Loading = true

@@ -80,7 +80,7 @@ pub fn is_unmapped(f: Flag) -> bool
     }
 }
 
-// The flag premise of step 23: no editor shuts readers out.
+// The flag premise of step 23: a reader passes the first check.
 pub fn open_to_readers(f: Flag) -> bool
     ensures { λ r. ⌜ r ≡ openToReaders f ⌝ }
 {

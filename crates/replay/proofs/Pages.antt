@@ -1,12 +1,12 @@
 -- The requests of a run, and the pages that they leave: each is answered from the page that those before it left, by a step
 -- where its bytes are a request. In order: one request, the requests, the pages. Assumes nothing.
-use Prim.Native.Nat.{ℕ, zero, suc, _+_, _*_, _/_, _<_}
+use Prim.Native.Nat.{ℕ, zero, suc, _+_, _*_, _/_, _<_, _≤_}
 use mathlib.Core.Path.{_≡_, refl, ap, _∙_}
 use mathlib.Core.List.{List, [], _∷_, _++_}
 use native.Mathlib.Omega.{arith}
 use native.Mathlib.Nat.{mul-zero, mul-suc}
 use lib.ListN.{length, take, drop, getD}
-use lib.Seq.{take-suc, drop-drop}
+use lib.Seq.{take-all, take-suc, drop-drop}
 use Rattle.kinds.specs.Limits.{recordSize}
 use Rattle.page_record.specs.declared.Page.{Page}
 use Rattle.steps.specs.declared.Refusal.{Refusal}
@@ -67,3 +67,9 @@ module _ (page : Page) (requests : List ℕ) where
       ap (pageAfter page) (take-suc qs k [] in-range)
       ∙ page-last page (take k qs) (getD qs k [])
       ∙ ap (λ (q : List ℕ). turnOf (pageAt k page requests) q .page) (request-at requests k h)
+
+  -- all of them leave the page at the end
+  pub page-all : pageAt (length requests / recordSize) page requests ≡ pageAfter page (requestsOf requests)
+  page-all =
+      let h : length (requestsOf requests) ≤ length requests / recordSize = rw length-requests (omega arith) in
+      ap (pageAfter page) (take-all (length requests / recordSize) (requestsOf requests) h)
