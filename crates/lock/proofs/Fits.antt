@@ -41,6 +41,7 @@ use Rattle.lock.specs.Moves.{RwLock, stateWith, countOf, Elsewhere, Room
 use Rattle.steps.proofs.Verdicts.{passed}
 use Rattle.lock.proofs.MoveLaws.{handed, is-handed, unrefused, stepNo, by-number, Formed, opened, expected, Split, split}
 use Rattle.lock.proofs.Pick.{_&_, pick}
+use Rattle.lock.proofs.Cells.{pastLast}
 use Rattle.lock.proofs.Counts.{set-there, set-others}
 use Rattle.lock.proofs.MoveFacts.{Granted, granted}
 
@@ -276,7 +277,7 @@ module _ (h : Head) (l : List Reader) (q : Request) where
     unfolding lookFor
     told =
         rw by-number
-        (pick 25 (λ (n : ℕ). q .step ≡ n → Fits (decided h (stepNo h l q n)))
+        (pick pastLast (λ (n : ℕ). q .step ≡ n → Fits (decided h (stepNo h l q n)))
         ((λ _. ran (unknown h) (λ p. absurd (p .0)) λ p. absurd (p .0))
         & fits1 & fits2 & fits3 & fits4 & fits5 & fits6 & fits7 & fits8 & fits9 & fits10 & fits11 & fits12
         & fits13 & fits14 & fits15 & fits16 & fits17 & fits18 & fits19 & fits20 & fits21 & fits22 & fits23 & fits24 & tt)

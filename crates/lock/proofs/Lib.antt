@@ -7,6 +7,9 @@ pub mod Shared
 pub mod Rows
 pub mod Keeps
 pub mod Reach
+pub mod Numbered
+pub mod Fields
+pub mod Tables
 pub mod Least
 pub mod MoveLaws
 pub mod MoveFacts

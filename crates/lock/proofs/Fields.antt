@@ -1,0 +1,90 @@
+-- The numbers 2, 3 and 4, which speak of the request alone: what the steps ask of its fields is that the table's number does
+-- not apply (`step-known`, `fields-fit`, `bucket-fits`). Which fields a step takes is compared for every step number at once,
+-- by computation (`agrees`). Assumes nothing.
+use Prim.Native.Nat.{ℕ, zero, suc, _<_}
+use mathlib.Core.Path.{_≡_, refl, sym, _∙_}
+use mathlib.Core.Bool.{Bool, true, false, not, cond, _&&_, _||_, Bool·beq, Bool·not-not}
+use native.Mathlib.Omega.{arith}
+use native.Mathlib.Nat.{not-suc-le-zero, le-of-suc-le-suc}
+use lib.Dec.{T, eqb, ltb, leb}
+use borrow.Author.Tests.{le-leb, ne-eqb, leb-true}
+use Rattle.kinds.specs.Limits.{buckets}
+use Rattle.steps.specs.declared.Request.{Request}
+use Rattle.steps.specs.Requests.{lastStep, isStep, takesBucket, takesValue, fieldsFit, bucketFits}
+use Rattle.lock.specs.Applies.{bucketTaken, cleanTaken, valueTaken, applies2, applies3, applies4}
+use Rattle.lock.proofs.Cells.{pastLast}
+use Rattle.lock.proofs.Numbered.{leb-ltb, leb-zero}
+
+-- ---- by number
+-- two tests that agree at each number below k
+abbrev agree : ℕ → (ℕ → Bool) → (ℕ → Bool) → Bool
+agree zero f g = true
+agree (suc k) f g = Bool·beq (f 0) (g 0) && agree k (λ n. f (suc n)) (λ n. g (suc n))
+
+agrees : (k : ℕ) (f g : ℕ → Bool) → T (agree k f g) → (n : ℕ) → n < k → f n ≡ g n
+agrees zero f g t n h = absurd (not-suc-le-zero h)
+agrees (suc k) f g t zero h = go (f 0) (g 0) t
+  where
+    go : (a b : Bool) → T (Bool·beq a b && agree k (λ n. f (suc n)) (λ n. g (suc n))) → a ≡ b
+    go true true t = refl
+    go true false t = absurd t
+    go false true t = absurd t
+    go false false t = refl
+agrees (suc k) f g t (suc n) h = agrees k (λ m. f (suc m)) (λ m. g (suc m)) (go (Bool·beq (f 0) (g 0)) t) n (le-of-suc-le-suc h)
+  where
+    go : (a : Bool) → T (a && agree k (λ m. f (suc m)) (λ m. g (suc m))) → T (agree k (λ m. f (suc m)) (λ m. g (suc m)))
+    go true t = t
+    go false t = absurd t
+
+-- ---- 2
+pub step-known : (n : ℕ) → isStep n ≡ not (eqb n 0 || ltb lastStep n)
+step-known zero = refl
+step-known (suc n) = rw (le-leb 1 (suc n) (omega arith), ne-eqb (suc n) 0 (λ e. omega arith)) (leb-ltb (suc n) lastStep)
+
+pub step-past : (n : ℕ) → T (isStep n) → n < pastLast
+step-past n t = go (leb 1 n) (leb n lastStep) refl t
+  where
+    go : (a b : Bool) → leb n lastStep ≡ b → T (a && b) → n < pastLast
+    go true true e t =
+        let h = leb-true n lastStep e in
+        omega arith
+    go true false e t = absurd t
+    go false b e t = absurd t
+
+-- ---- 3 and 4
+-- what is asked of the fields, for any fields that are taken
+module _ (b c v : ℕ) where
+  clean-fits : (taken : Bool) → leb c (cond taken 1 0) ≡ not (cond taken (ltb 1 c) (not (eqb c 0)))
+  clean-fits true = leb-ltb c 1
+  clean-fits false = leb-zero c ∙ sym (Bool·not-not (eqb c 0))
+
+  either : (taken zeroed : Bool) → (taken || zeroed) ≡ not (not taken && not zeroed)
+  either true z = refl
+  either false true = refl
+  either false false = refl
+
+  three : (x y z : Bool) → (not x && not y && not z) ≡ not (x || y || z)
+  three true y z = refl
+  three false true z = refl
+  three false false true = refl
+  three false false false = refl
+
+  fields : (tb tc tv : Bool)
+      → ((tb || eqb b 0) && leb c (cond tc 1 0) && (tv || eqb v 0))
+      ≡ not ((not tb && not (eqb b 0)) || cond tc (ltb 1 c) (not (eqb c 0)) || (not tv && not (eqb v 0)))
+  fields tb tc tv =
+      rw (either tb (eqb b 0), clean-fits tc, either tv (eqb v 0))
+      (three (not tb && not (eqb b 0)) (cond tc (ltb 1 c) (not (eqb c 0))) (not tv && not (eqb v 0)))
+
+  in-range : (tb : Bool) → (not tb || ltb b buckets) ≡ not (tb && not (ltb b buckets))
+  in-range true = sym (Bool·not-not (ltb b buckets))
+  in-range false = refl
+
+pub fields-fit : (q : Request) → q .step < pastLast → fieldsFit q ≡ not (applies3 q)
+fields-fit q h =
+    rw (agrees pastLast takesBucket bucketTaken tt (q .step) h, agrees pastLast takesValue valueTaken tt (q .step) h)
+    (fields (q .bucket .0) (q .clean) (q .value) (bucketTaken (q .step)) (cleanTaken (q .step)) (valueTaken (q .step)))
+
+pub bucket-fits : (q : Request) → q .step < pastLast → bucketFits q ≡ not (applies4 q)
+bucket-fits q h =
+    rw (agrees pastLast takesBucket bucketTaken tt (q .step) h) (in-range (q .bucket .0) (q .clean) (q .value) (bucketTaken (q .step)))

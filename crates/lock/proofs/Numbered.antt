@@ -1,0 +1,102 @@
+-- A list of premises as a number: that of the first that fails (`numbered`), which is the number that a decided step answers
+-- (`decided-number`). The numbers 5 to 11 in the words of document 01's table come to the same (`premised-tabled`). Where the
+-- table says "is 31" or "is 4" and a step tests "below", the two agree up to that limit (`below-limit`, `at-limit`).
+-- Assumes nothing.
+use Prim.Native.Nat.{ℕ, zero, suc, _≤_, _<_}
+use mathlib.Core.Path.{_≡_, refl, ap, _∙_}
+use mathlib.Core.Bool.{Bool, true, false, not, cond, _&&_, Bool·not-not}
+use mathlib.Core.List.{List, [], _∷_, map}
+use native.Mathlib.Omega.{arith}
+use lib.Dec.{eqb, ltb, leb}
+use borrow.Author.Tests.{lt-ltb, le-ltb, lt-leb, ne-eqb, leb-true, leb-false, eqb-true, eqb-false}
+use Rattle.page_record.specs.declared.Head.{Head}
+use Rattle.page_record.specs.Rules.{firstBroken}
+use Rattle.steps.specs.declared.Refusal.{Refusal}
+use Rattle.steps.specs.declared.Verdict.{Verdict}
+use Rattle.steps.specs.Answers.{refusalNumber, answerNumber}
+use Rattle.steps.specs.Premises.{Step, verdict, decided, settled}
+
+-- ---- tests
+-- a number is at most another just if that one is not below it
+pub leb-ltb : (a b : ℕ) → leb a b ≡ not (ltb b a)
+leb-ltb a b = go (leb a b) refl
+  where
+    go : (t : Bool) → leb a b ≡ t → leb a b ≡ not (ltb b a)
+    go true e =
+        let h = leb-true a b e in
+        rw (e, le-ltb b a h)
+    go false e =
+        let h = leb-false a b e in
+        rw (e, lt-ltb b a h)
+
+pub leb-zero : (a : ℕ) → leb a 0 ≡ eqb a 0
+leb-zero zero = refl
+leb-zero (suc a) = rw (lt-leb (suc a) 0 (omega arith), ne-eqb (suc a) 0 (λ e. omega arith))
+
+-- where it is at most the limit, "below" is "not the limit"
+pub below-limit : (a b : ℕ) → a ≤ b → ltb a b ≡ not (eqb a b)
+below-limit a b h = go (eqb a b) refl
+  where
+    go : (t : Bool) → eqb a b ≡ t → ltb a b ≡ not (eqb a b)
+    go true e =
+        let k = eqb-true a b e in
+        let l : b ≤ a = omega arith in
+        rw (e, le-ltb a b l)
+    go false e =
+        let k = eqb-false a b e in
+        let l : a < b = omega arith in
+        rw (e, lt-ltb a b l)
+
+pub at-limit : (a b : ℕ) → a ≤ b → leb b a ≡ eqb a b
+at-limit a b h = leb-ltb b a ∙ ap not (below-limit a b h) ∙ Bool·not-not (eqb a b)
+
+-- ---- verdicts as numbers
+abbrev numberOf : Verdict → ℕ
+numberOf Verdict.Passed = 0
+numberOf (Verdict.Failed why) = refusalNumber why
+
+-- the number of the first premise that fails
+abbrev pub numbered : List (Refusal × Bool) → ℕ
+numbered [] = 0
+numbered (c ∷ cs) = cond (c .1) (numbered cs) (refusalNumber (c .0))
+
+verdict-number : (cs : List (Refusal × Bool)) → numberOf (verdict cs) ≡ numbered cs
+verdict-number [] = refl
+verdict-number (c ∷ cs) = go (c .1) (verdict-number cs)
+  where
+    go : (t : Bool) → numberOf (verdict cs) ≡ numbered cs → numberOf (cond t (verdict cs) (Verdict.Failed (c .0))) ≡ cond t (numbered cs) (refusalNumber (c .0))
+    go true e = e
+    go false e = refl
+
+pub decided-number : (h : Head) (st : Step) → answerNumber (st .answer) ≡ 0 → answerNumber (decided h st .answer) ≡ numbered (st .premises)
+decided-number h st e = go (verdict (st .premises)) ∙ verdict-number (st .premises)
+  where
+    go : (v : Verdict) → answerNumber (settled h st v .answer) ≡ numberOf v
+    go Verdict.Passed = e
+    go (Verdict.Failed why) = refl
+
+-- premises with the numbers 5 to 11, and those numbers in the table: 7, 8 and 9 speak of the holder, so they apply only
+-- where it is there
+abbrev premised : Bool → Bool → Bool → Bool → Bool → Bool → Bool → ℕ
+premised flag holder bucket visited count ceiling room =
+    numbered
+    ((Refusal.WrongFlag, flag)
+    ∷ (Refusal.NoHolder, holder)
+    ∷ (Refusal.WrongBucket, not bucket)
+    ∷ (Refusal.WrongVisited, not visited)
+    ∷ (Refusal.OtherCount, not count)
+    ∷ (Refusal.AtCeiling, not ceiling)
+    ∷ (Refusal.ListFull, not room)
+    ∷ [])
+
+abbrev pub tabled : Bool → Bool → Bool → Bool → Bool → Bool → Bool → ℕ
+tabled flag holder bucket visited count ceiling room =
+    firstBroken 5
+    (map not
+    (not flag ∷ not holder ∷ (holder && bucket) ∷ (holder && visited) ∷ (holder && count) ∷ ceiling ∷ room ∷ []))
+
+pub premised-tabled : (flag holder bucket visited count ceiling room : Bool)
+    → premised flag holder bucket visited count ceiling room ≡ tabled flag holder bucket visited count ceiling room
+premised-tabled true true b v c e r = refl
+premised-tabled true false b v c e r = refl
+premised-tabled false h b v c e r = refl

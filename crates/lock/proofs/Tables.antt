@@ -1,0 +1,269 @@
+-- Each step's premises are the numbers 5 to 11 of document 01's table (specs/Applies.antt), a line a step; `tabled-at` picks
+-- the line of the step that a request names. A reader is found just if the table finds it listed (`found-from`), a flag's test
+-- is the table's list of flags (`available-lets` and the like), and soundness keeps counts, visited number and length within
+-- their limits (`bounds`). Assumes nothing.
+use Prim.Native.Nat.{ℕ, _+_, _≤_}
+use mathlib.Core.Path.{_≡_, refl, ap}
+use mathlib.Core.Bool.{Bool, true, false, not, cond, _&&_, Bool·not-not}
+use mathlib.Core.List.{List, [], _∷_, map}
+use native.Mathlib.Omega.{arith}
+use lib.Dec.{T, eqb, leb, leb→le}
+use lib.ListN.{drop}
+use Rattle.kinds.specs.Limits.{buckets, capacity, ceiling}
+use Rattle.kinds.specs.Flags.{isAvailable, claimable, writebackDone, isUnmapped, openToReaders, notLoading}
+use Rattle.kinds.specs.declared.Bucket.{Bucket}
+use Rattle.kinds.specs.declared.Count.{Count}
+use Rattle.kinds.specs.declared.Flag.{Flag}
+use Rattle.kinds.specs.declared.Phase.{Phase}
+use Rattle.kinds.specs.declared.Reader.{Reader}
+use Rattle.readers.specs.declared.Found.{Found}
+use Rattle.readers.specs.declared.Readers.{Readers}
+use Rattle.readers.specs.Lists.{every}
+use Rattle.readers.specs.Same.{sameReader}
+use Rattle.readers.specs.Listed.{live, findFrom, findIn}
+use Rattle.readers.proofs.Tests.{halves}
+use Rattle.page_record.specs.declared.Head.{Head}
+use Rattle.page_record.specs.declared.Page.{Page}
+use Rattle.page_record.specs.Holders.{hasBucket, isClaim, isAwait, isPending, isEditing, excBucket, excVisited, isWaiting, isCounted, isLoaded, loadingBucket, noWriteback, validBucket}
+use Rattle.page_record.specs.Pages.{headOf, numberAt}
+use Rattle.page_record.specs.References.{refAt}
+use Rattle.page_record.specs.Rules.{soundOf, firstBroken}
+use Rattle.page_record.specs.Shapes.{Shape, unmapped, waiting, counted, loaded, available, claimed, writeback, writebackClaimed, writebackAwait, await, pending, editing, headAt, valid}
+use Rattle.page_record.proofs.Shapes.{by-shape}
+use Rattle.page_record.proofs.Tested.{facts}
+use Rattle.steps.specs.declared.Refusal.{Refusal}
+use Rattle.steps.specs.declared.Request.{Request}
+use Rattle.steps.specs.Answers.{answerNumber}
+use Rattle.steps.specs.Premises.{Step}
+use Rattle.steps.specs.Requests.{isStep}
+use Rattle.steps.specs.Steps.{isFound, reader}
+use Rattle.steps.specs.Decide.{stepAt, soughtOf}
+use Rattle.lock.specs.Words.{among, raising, listing}
+use Rattle.lock.specs.Step.{lookFor}
+use Rattle.lock.specs.Applies.{flagLets, lists, holderThere, bucketWrong, visitedWrong, countOther, applying}
+use Rattle.lock.proofs.Pick.{Below, _&_, pick}
+use Rattle.lock.proofs.Cells.{pastLast}
+use Rattle.lock.proofs.Numbered.{numbered, tabled, premised-tabled, below-limit, at-limit}
+use Rattle.lock.proofs.Fields.{step-past}
+
+-- ---- what soundness adds: a count is at most 31, a visited number at most 4, a length at most 64
+pub record Bounds (p : Page) : Type 0 where
+  pub closed : excVisited (p .«exc_state») .0 ≤ buckets
+  pub few : (b : ℕ) → numberAt (p .«ref_counts») b ≤ ceiling
+  pub room : p .readers .len ≤ capacity
+
+visited-closed : (z : Shape) (cs : List Count) → T (valid z) → excVisited (headAt z cs .«exc_state») .0 ≤ buckets
+visited-closed (unmapped v) cs t = omega arith
+visited-closed waiting cs t = omega arith
+visited-closed (counted b) cs t = omega arith
+visited-closed (loaded m) cs t = omega arith
+visited-closed (available v) cs t = omega arith
+visited-closed (claimed m v) cs t = omega arith
+visited-closed (writeback v) cs t = omega arith
+visited-closed (writebackClaimed m v) cs t = omega arith
+visited-closed (writebackAwait m v) cs t = omega arith
+visited-closed (await m v) cs t = omega arith
+visited-closed (pending m n clean v) cs t = leb→le (n .0) buckets (halves (leb (n .0) buckets) (validBucket m) t .0)
+visited-closed (editing m clean) cs t = omega arith
+
+pub bounds : (p : Page) → T (soundOf p) → Bounds p
+bounds p sound =
+    let f = facts p sound in
+    record {
+      closed = by-shape (λ (h : Head). excVisited (h .«exc_state») .0 ≤ buckets) visited-closed (headOf p) (f .parts .head);
+      few = f .parts .few;
+      room = omega (arith, f .parts .room, ap (λ (rs : Readers). rs .len) (f .neat));
+    }
+
+-- ---- a reader is found just if it is listed
+found-from : (i : ℕ) (l : List Reader) (x : Reader) → isFound (findFrom i l x) ≡ not (every (λ r. not (sameReader r x)) l)
+found-from i [] x = refl
+found-from i (r ∷ rs) x = go (sameReader r x) (found-from (i + 1) rs x)
+  where
+    go : (t : Bool) → isFound (findFrom (i + 1) rs x) ≡ not (every (λ r. not (sameReader r x)) rs)
+        → isFound (cond t (Found.At i) (findFrom (i + 1) rs x)) ≡ not (not t && every (λ r. not (sameReader r x)) rs)
+    go true e = refl
+    go false e = e
+
+-- ---- flags
+by-flag : (P : Flag → Type 0)
+    → P Flag.Unmapped → P Flag.Loading → P Flag.LoadingExcLock → P Flag.Available → P Flag.Claimed → P Flag.Writeback
+    → P Flag.WritebackAndClaimed → P Flag.WritebackAndPendingExcLock → P Flag.PendingExcLock → P Flag.ExcLockClean → P Flag.ExcLockDirty
+    → (f : Flag) → P f
+by-flag P a b c d e f g h i j k Flag.Unmapped = a
+by-flag P a b c d e f g h i j k Flag.Loading = b
+by-flag P a b c d e f g h i j k Flag.LoadingExcLock = c
+by-flag P a b c d e f g h i j k Flag.Available = d
+by-flag P a b c d e f g h i j k Flag.Claimed = e
+by-flag P a b c d e f g h i j k Flag.Writeback = f
+by-flag P a b c d e f g h i j k Flag.WritebackAndClaimed = g
+by-flag P a b c d e f g h i j k Flag.WritebackAndPendingExcLock = h
+by-flag P a b c d e f g h i j k Flag.PendingExcLock = i
+by-flag P a b c d e f g h i j k Flag.ExcLockClean = j
+by-flag P a b c d e f g h i j k Flag.ExcLockDirty = k
+
+available-lets : (f : Flag) → isAvailable f ≡ flagLets 1 f
+available-lets = by-flag (λ f. isAvailable f ≡ flagLets 1 f) refl refl refl refl refl refl refl refl refl refl refl
+
+claimable-lets : (f : Flag) → claimable f ≡ flagLets 3 f
+claimable-lets = by-flag (λ f. claimable f ≡ flagLets 3 f) refl refl refl refl refl refl refl refl refl refl refl
+
+writeback-lets : (f : Flag) → writebackDone f ≡ flagLets 6 f
+writeback-lets = by-flag (λ f. writebackDone f ≡ flagLets 6 f) refl refl refl refl refl refl refl refl refl refl refl
+
+unmapped-lets : (f : Flag) → isUnmapped f ≡ flagLets 11 f
+unmapped-lets = by-flag (λ f. isUnmapped f ≡ flagLets 11 f) refl refl refl refl refl refl refl refl refl refl refl
+
+open-lets : (f : Flag) → openToReaders f ≡ flagLets 23 f
+open-lets = by-flag (λ f. openToReaders f ≡ flagLets 23 f) refl refl refl refl refl refl refl refl refl refl refl
+
+loading-lets : (f : Flag) → notLoading f ≡ flagLets 24 f
+loading-lets = by-flag (λ f. notLoading f ≡ flagLets 24 f) refl refl refl refl refl refl refl refl refl refl refl
+
+-- ---- each step's premises are the numbers 5 to 11 of the table
+module _ (p : Page) (within : Bounds p) (b : Bucket) (clean value : ℕ) where
+  abbrev ask : ℕ → Request
+  ask n = record { step = n; bucket = b; clean = clean; value = value }
+
+  abbrev stepNo : ℕ → Step
+  stepNo n = stepAt (headOf p) (ask n) (lookFor (live (p .readers)) (soughtOf (ask n))) (leb capacity (p .readers .len))
+
+  abbrev atCeiling : Bool
+  atCeiling = eqb (numberAt (p .«ref_counts») (b .0)) ceiling
+
+  abbrev isFull : Bool
+  isFull = eqb (p .readers .len) capacity
+
+  abbrev Tabled : ℕ → Type 0
+  Tabled n =
+      numbered (stepNo n .premises)
+      ≡ tabled (flagLets n (p .flag)) (holderThere p (ask n)) (bucketWrong p n) (visitedWrong p n) (countOther p n)
+      (among raising n && atCeiling) (among listing n && isFull)
+
+  abbrev exc-bucket : Bool
+  exc-bucket = hasBucket (excBucket (p .«exc_state»))
+
+  abbrev load-bucket : Bool
+  load-bucket = hasBucket (loadingBucket (p .«loading_state»))
+
+  abbrev obtained : Reader
+  obtained = reader (Phase.Obtained value) b
+
+  tabled1 : Tabled 1
+  tabled1 = rw (available-lets (p .flag)) (premised-tabled (flagLets 1 (p .flag)) true false false false false false)
+
+  tabled2 : Tabled 2
+  tabled2 = premised-tabled true (not (noWriteback (p .«writeback_state»))) false false false false false
+
+  tabled3 : Tabled 3
+  tabled3 = rw (claimable-lets (p .flag)) (premised-tabled (flagLets 3 (p .flag)) true false false false false false)
+
+  tabled4 : Tabled 4
+  unfolding lookFor soughtOf
+  tabled4 =
+      rw (claimable-lets (p .flag), found-from 0 (live (p .readers)) obtained)
+      (premised-tabled (flagLets 4 (p .flag)) (lists (live (p .readers)) (Phase.Obtained value) b) false false false false false)
+
+  tabled5 : Tabled 5
+  tabled5 = premised-tabled true (isClaim (p .«exc_state»)) false false false false false
+
+  tabled6 : Tabled 6
+  tabled6 = rw (writeback-lets (p .flag)) (premised-tabled (flagLets 6 (p .flag)) (isAwait (p .«exc_state»)) false false false false false)
+
+  tabled7 : Tabled 7
+  tabled7 =
+      let visited = excVisited (p .«exc_state») .0 in
+      let expects = eqb (numberAt (p .«ref_counts») visited) (refAt (excBucket (p .«exc_state»)) visited) in
+      rw (below-limit visited buckets (within .closed))
+      (simp Bool·not-not (simp Bool·not-not at (premised-tabled true (isPending (p .«exc_state»)) false (eqb visited buckets) (not expects) false false)))
+
+  tabled8 : Tabled 8
+  tabled8 =
+      let visited = excVisited (p .«exc_state») .0 in
+      simp Bool·not-not (simp Bool·not-not at (premised-tabled true (isPending (p .«exc_state»)) false (not (eqb visited buckets)) false false false))
+
+  tabled9 : Tabled 9
+  tabled9 =
+      rw (at-limit (p .readers .len) capacity (within .room))
+      (simp Bool·not-not (simp Bool·not-not at (premised-tabled true (isEditing (p .«exc_state»)) (not exc-bucket) false false false isFull)))
+
+  tabled10 : Tabled 10
+  tabled10 = simp Bool·not-not (simp Bool·not-not at (premised-tabled true (isEditing (p .«exc_state»)) (not exc-bucket) false false false false))
+
+  tabled11 : Tabled 11
+  tabled11 = rw (unmapped-lets (p .flag)) (premised-tabled (flagLets 11 (p .flag)) true false false false false false)
+
+  tabled12 : Tabled 12
+  tabled12 = rw (unmapped-lets (p .flag)) (premised-tabled (flagLets 12 (p .flag)) true false false false false false)
+
+  tabled13 : Tabled 13
+  tabled13 =
+      rw (below-limit (numberAt (p .«ref_counts») (b .0)) ceiling (within .few (b .0)))
+      (premised-tabled true (isWaiting (p .«loading_state»)) false false false atCeiling false)
+
+  tabled14 : Tabled 14
+  tabled14 = premised-tabled true (isCounted (p .«loading_state»)) false false false false false
+
+  tabled15 : Tabled 15
+  tabled15 = premised-tabled true (isWaiting (p .«loading_state»)) false false false false false
+
+  tabled16 : Tabled 16
+  tabled16 =
+      rw (at-limit (p .readers .len) capacity (within .room))
+      (simp Bool·not-not (simp Bool·not-not at (premised-tabled true (isLoaded (p .«loading_state»)) (not load-bucket) false false false isFull)))
+
+  tabled17 : Tabled 17
+  tabled17 = simp Bool·not-not (simp Bool·not-not at (premised-tabled true (isLoaded (p .«loading_state»)) (not load-bucket) false false false false))
+
+  tabled18 : Tabled 18
+  tabled18 =
+      rw (below-limit (numberAt (p .«ref_counts») (b .0)) ceiling (within .few (b .0)))
+      (premised-tabled true (isEditing (p .«exc_state»)) exc-bucket false false atCeiling false)
+
+  tabled19 : Tabled 19
+  tabled19 =
+      rw (below-limit (numberAt (p .«ref_counts») (b .0)) ceiling (within .few (b .0)), at-limit (p .readers .len) capacity (within .room))
+      (premised-tabled true true false false false atCeiling isFull)
+
+  -- 20 to 22: the holder alone
+  tabled-holder : (phase : Phase) → numbered ((Refusal.NoHolder, isFound (findIn (live (p .readers)) (reader phase b))) ∷ []) ≡ tabled true (lists (live (p .readers)) phase b) false false false false false
+  tabled-holder phase = rw (found-from 0 (live (p .readers)) (reader phase b)) (premised-tabled true (lists (live (p .readers)) phase b) false false false false false)
+
+  tabled20 : Tabled 20
+  unfolding lookFor soughtOf
+  tabled20 = tabled-holder Phase.Pending
+
+  tabled21 : Tabled 21
+  unfolding lookFor soughtOf
+  tabled21 = tabled-holder Phase.Pending2
+
+  tabled22 : Tabled 22
+  unfolding lookFor soughtOf
+  tabled22 = tabled-holder (Phase.Obtained value)
+
+  tabled23 : Tabled 23
+  unfolding lookFor soughtOf
+  tabled23 =
+      rw (open-lets (p .flag), found-from 0 (live (p .readers)) (reader Phase.Pending b))
+      (premised-tabled (flagLets 23 (p .flag)) (lists (live (p .readers)) Phase.Pending b) false false false false false)
+
+  tabled24 : Tabled 24
+  unfolding lookFor soughtOf
+  tabled24 =
+      rw (loading-lets (p .flag), found-from 0 (live (p .readers)) (reader Phase.Pending2 b))
+      (premised-tabled (flagLets 24 (p .flag)) (lists (live (p .readers)) Phase.Pending2 b) false false false false false)
+
+  abbrev Entry : ℕ → Type 0
+  Entry n = T (isStep n) → (answerNumber (stepNo n .answer) ≡ 0) × Tabled n
+
+  entries : Below pastLast Entry
+  entries = (λ t. absurd t) & (λ t. (refl, tabled1)) & (λ t. (refl, tabled2)) & (λ t. (refl, tabled3)) & (λ t. (refl, tabled4)) & (λ t. (refl, tabled5)) & (λ t. (refl, tabled6)) & (λ t. (refl, tabled7)) & (λ t. (refl, tabled8)) & (λ t. (refl, tabled9)) & (λ t. (refl, tabled10)) & (λ t. (refl, tabled11)) & (λ t. (refl, tabled12)) & (λ t. (refl, tabled13)) & (λ t. (refl, tabled14)) & (λ t. (refl, tabled15)) & (λ t. (refl, tabled16)) & (λ t. (refl, tabled17)) & (λ t. (refl, tabled18)) & (λ t. (refl, tabled19)) & (λ t. (refl, tabled20)) & (λ t. (refl, tabled21)) & (λ t. (refl, tabled22)) & (λ t. (refl, tabled23)) & (λ t. (refl, tabled24)) & tt
+
+-- the step that a request names
+pub tabled-at : (p : Page) → Bounds p → (q : Request) → T (isStep (q .step))
+    → (answerNumber (stepAt (headOf p) q (lookFor (live (p .readers)) (soughtOf q)) (leb capacity (p .readers .len)) .answer) ≡ 0)
+    × (numbered (stepAt (headOf p) q (lookFor (live (p .readers)) (soughtOf q)) (leb capacity (p .readers .len)) .premises)
+    ≡ firstBroken 5 (map not (drop 4 (applying p q))))
+tabled-at p within q t =
+    pick pastLast (Entry p within (q .bucket) (q .clean) (q .value)) (entries p within (q .bucket) (q .clean) (q .value))
+    (q .step) (step-past (q .step) t) t
