@@ -71,7 +71,7 @@ abbrev pub below : (ℕ → Bool) → ℕ → Bool
 below f zero = true
 below f (suc k) = f k && below f k
 
-below-at : (f : ℕ → Bool) (k n : ℕ) → T (below f k) → n < k → T (f n)
+pub below-at : (f : ℕ → Bool) (k n : ℕ) → T (below f k) → n < k → T (f n)
 below-at f zero n t h = absurd (omega arith)
 below-at f (suc k) n t h =
     let u = halves (f k) (below f k) t in

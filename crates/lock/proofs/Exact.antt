@@ -26,8 +26,9 @@ use Rattle.steps.specs.Requests.{judged}
 use Rattle.lock.specs.declared.Outcome.{Outcome}
 use Rattle.lock.specs.Step.{edited, decidedOn, stepOf}
 use Rattle.lock.specs.Moves.{RwLock, stateWith, stateOf, Moves, Room, answerOf}
+use Rattle.lock.proofs.Passes.{formed}
 use Rattle.lock.proofs.Keeps.{outcomeOf, step-listed, unsound-stays, unfit-stays}
-use Rattle.lock.proofs.MoveLaws.{Accepts, same-out, unrefused, formed}
+use Rattle.lock.proofs.MoveLaws.{Accepts, same-out, unrefused}
 use Rattle.lock.proofs.Takes.{takes}
 use Rattle.lock.proofs.Fits.{told}
 

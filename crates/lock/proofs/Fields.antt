@@ -5,51 +5,33 @@ use Prim.Native.Nat.{ℕ, zero, suc, _<_}
 use mathlib.Core.Path.{_≡_, refl, sym, _∙_}
 use mathlib.Core.Bool.{Bool, true, false, not, cond, _&&_, _||_, Bool·beq, Bool·not-not}
 use native.Mathlib.Omega.{arith}
-use native.Mathlib.Nat.{not-suc-le-zero, le-of-suc-le-suc}
 use lib.Dec.{T, eqb, ltb, leb}
-use borrow.Author.Tests.{le-leb, ne-eqb, leb-true}
+use borrow.Author.Tests.{le-leb, ne-eqb}
 use Rattle.kinds.specs.Limits.{buckets}
 use Rattle.steps.specs.declared.Request.{Request}
 use Rattle.steps.specs.Requests.{lastStep, isStep, takesBucket, takesValue, fieldsFit, bucketFits}
 use Rattle.lock.specs.Applies.{bucketTaken, cleanTaken, valueTaken, applies2, applies3, applies4}
-use Rattle.lock.proofs.Cells.{pastLast}
+use Rattle.lock.proofs.Cells.{below, below-at, pastLast}
 use Rattle.lock.proofs.Numbered.{leb-ltb, leb-zero}
 
 -- ---- by number
--- two tests that agree at each number below k
-abbrev agree : ℕ → (ℕ → Bool) → (ℕ → Bool) → Bool
-agree zero f g = true
-agree (suc k) f g = Bool·beq (f 0) (g 0) && agree k (λ n. f (suc n)) (λ n. g (suc n))
+alike : (a b : Bool) → T (Bool·beq a b) → a ≡ b
+alike true true t = refl
+alike true false t = absurd t
+alike false true t = absurd t
+alike false false t = refl
 
-agrees : (k : ℕ) (f g : ℕ → Bool) → T (agree k f g) → (n : ℕ) → n < k → f n ≡ g n
-agrees zero f g t n h = absurd (not-suc-le-zero h)
-agrees (suc k) f g t zero h = go (f 0) (g 0) t
-  where
-    go : (a b : Bool) → T (Bool·beq a b && agree k (λ n. f (suc n)) (λ n. g (suc n))) → a ≡ b
-    go true true t = refl
-    go true false t = absurd t
-    go false true t = absurd t
-    go false false t = refl
-agrees (suc k) f g t (suc n) h = agrees k (λ m. f (suc m)) (λ m. g (suc m)) (go (Bool·beq (f 0) (g 0)) t) n (le-of-suc-le-suc h)
-  where
-    go : (a : Bool) → T (a && agree k (λ m. f (suc m)) (λ m. g (suc m))) → T (agree k (λ m. f (suc m)) (λ m. g (suc m)))
-    go true t = t
-    go false t = absurd t
+-- two tests that agree at every step number
+agrees : (f g : ℕ → Bool) → T (below (λ n. Bool·beq (f n) (g n)) pastLast) → (n : ℕ) → n < pastLast → f n ≡ g n
+agrees f g t n h = alike (f n) (g n) (below-at (λ n. Bool·beq (f n) (g n)) pastLast n t h)
 
 -- ---- 2
-pub step-known : (n : ℕ) → isStep n ≡ not (eqb n 0 || ltb lastStep n)
-step-known zero = refl
-step-known (suc n) = rw (le-leb 1 (suc n) (omega arith), ne-eqb (suc n) 0 (λ e. omega arith)) (leb-ltb (suc n) lastStep)
+known : (n : ℕ) → isStep n ≡ not (eqb n 0 || ltb lastStep n)
+known zero = refl
+known (suc n) = rw (le-leb 1 (suc n) (omega arith), ne-eqb (suc n) 0 (λ e. omega arith)) (leb-ltb (suc n) lastStep)
 
-pub step-past : (n : ℕ) → T (isStep n) → n < pastLast
-step-past n t = go (leb 1 n) (leb n lastStep) refl t
-  where
-    go : (a b : Bool) → leb n lastStep ≡ b → T (a && b) → n < pastLast
-    go true true e t =
-        let h = leb-true n lastStep e in
-        omega arith
-    go true false e t = absurd t
-    go false b e t = absurd t
+pub step-known : (q : Request) → isStep (q .step) ≡ not (applies2 q)
+step-known q = known (q .step)
 
 -- ---- 3 and 4
 -- what is asked of the fields, for any fields that are taken
@@ -82,9 +64,9 @@ module _ (b c v : ℕ) where
 
 pub fields-fit : (q : Request) → q .step < pastLast → fieldsFit q ≡ not (applies3 q)
 fields-fit q h =
-    rw (agrees pastLast takesBucket bucketTaken tt (q .step) h, agrees pastLast takesValue valueTaken tt (q .step) h)
+    rw (agrees takesBucket bucketTaken tt (q .step) h, agrees takesValue valueTaken tt (q .step) h)
     (fields (q .bucket .0) (q .clean) (q .value) (bucketTaken (q .step)) (cleanTaken (q .step)) (valueTaken (q .step)))
 
 pub bucket-fits : (q : Request) → q .step < pastLast → bucketFits q ≡ not (applies4 q)
 bucket-fits q h =
-    rw (agrees pastLast takesBucket bucketTaken tt (q .step) h) (in-range (q .bucket .0) (q .clean) (q .value) (bucketTaken (q .step)))
+    rw (agrees takesBucket bucketTaken tt (q .step) h) (in-range (q .bucket .0) (q .clean) (q .value) (bucketTaken (q .step)))

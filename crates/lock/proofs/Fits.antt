@@ -39,8 +39,9 @@ use Rattle.lock.specs.Moves
 use Rattle.lock.specs.Words.{among, raising, listing}
 use Rattle.lock.specs.Moves.{RwLock, stateWith, countOf, Elsewhere, Room, answerOf, pending, pending2, obtained}
 use Rattle.steps.proofs.Verdicts.{passed}
-use Rattle.lock.proofs.MoveLaws.{handed, is-handed, unrefused, stepNo, by-number, Formed, opened, expected, Split, split}
+use Rattle.lock.proofs.MoveLaws.{handed, is-handed, unrefused, stepNo, by-number, opened, expected, Split, split}
 use Rattle.lock.proofs.Pick.{_&_, pick}
+use Rattle.lock.proofs.Passes.{Formed}
 use Rattle.lock.proofs.Cells.{pastLast}
 use Rattle.lock.proofs.Counts.{set-there, set-others}
 use Rattle.lock.proofs.MoveFacts.{Granted, granted}

@@ -14,7 +14,6 @@ use lib.Seq.{set-out, take-all}
 use Rattle.kinds.specs.Limits.{capacity}
 use Rattle.kinds.specs.declared.Reader.{Reader}
 use Rattle.readers.specs.declared.Readers.{Readers}
-use Rattle.readers.specs.declared.Found.{Found}
 use Rattle.readers.specs.declared.Pushed.{Pushed}
 use Rattle.readers.specs.Lists.{without}
 use Rattle.readers.specs.Listed.{live, listed, putAt, removedAt}
@@ -25,19 +24,19 @@ use Rattle.page_record.specs.declared.Page.{Page}
 use Rattle.page_record.specs.Pages.{headOf, pageOf}
 use Rattle.page_record.specs.Rules.{soundOf}
 use Rattle.page_record.specs.Facts.{Sound}
-use Rattle.page_record.proofs.Tested.{facts, tested-parts, every-default}
+use Rattle.page_record.proofs.Tested.{facts, tested-parts}
 use Rattle.steps.specs.declared.Refusal.{Refusal}
 use Rattle.steps.specs.declared.Answer.{Answer}
 use Rattle.steps.specs.declared.Verdict.{Verdict}
 use Rattle.steps.specs.declared.Edit.{Edit}
 use Rattle.steps.specs.declared.Request.{Request}
 use Rattle.steps.specs.declared.Decision.{Decision}
-use Rattle.steps.specs.Premises.{Step, verdict, settled}
 use Rattle.steps.specs.Requests.{judged}
-use Rattle.steps.specs.Decide.{unknown, steps, stepAt, decideOf, soughtOf}
+use Rattle.steps.specs.Decide.{soughtOf}
+use Rattle.steps.proofs.Verdicts.{decide-keeps}
 use Rattle.lock.specs.declared.Outcome.{Outcome}
 use Rattle.lock.specs.Step.{edited, editedIn, lookFor, decidedOn, refusedBy, applied, stepped, stepOf}
-use Rattle.lock.proofs.Passes.{judged-bucket}
+use Rattle.lock.proofs.Passes.{formed}
 use Rattle.lock.proofs.Rows.{keeps}
 
 -- ---- the edit of the array is the edit of the list
@@ -81,7 +80,7 @@ module _ (q : Request) (fit : judged q ≡ Verdict.Passed) where
   on-listed : (h : Head) (l : List Reader) → Sound h l → stepped (pageOf h (listed l)) q Verdict.Passed ≡ outcomeOf l (decidedOn h l q)
   on-listed h l s =
       let d = decidedOn h l q in
-      let k = keeps h l q (judged-bucket q fit) s in
+      let k = keeps h l q (formed q fit .bucket) s in
       rw (live-listed l)
       (ap (λ (rs : Readers). record { answer = d .answer; page = pageOf (d .head) rs }) (edited-listed (d .edit) l (s .room) (k .sound .room)))
 
@@ -110,28 +109,13 @@ step-keeps p q t = go (judged q) refl
     go Verdict.Passed e =
         let l = live (p .readers) in
         let d = decidedOn (headOf p) l q in
-        let k = keeps (headOf p) l q (judged-bucket q e) (facts p t .parts) in
+        let k = keeps (headOf p) l q (formed q e .bucket) (facts p t .parts) in
         rw (step-listed q e p t) (tested-parts (d .head) (edited (d .edit) l) (k .sound))
     go (Verdict.Failed why) e = rw (unfit-stays p q why t e) t
 
 -- ---- a refusal changes nothing
-abbrev accepting : Answer → Bool
-accepting Answer.Accepted = true
-accepting (Answer.Withdrew value) = true
-accepting (Answer.Refused why) = false
-
--- what a step answers where its premises hold is no refusal
-accepts-all : (h : Head) (q : Request) (found : Found) (full : Bool) → T (accepting (stepAt h q found full .answer))
-accepts-all h q found full = every-default (λ (st : Step). accepting (st .answer)) (steps h q found full) (q .step) (unknown h) tt tt
-
-refused-keeps : (p : Page) (st : Step) (v : Verdict) (why : Refusal) → T (accepting (st .answer))
-    → settled (headOf p) st v .answer ≡ Answer.Refused why → applied p (settled (headOf p) st v) .page ≡ p
-unfolding editedIn
-refused-keeps p st Verdict.Passed why t a = absurd (rw a at t)
-refused-keeps p st (Verdict.Failed w) why t a = refl
-
 pub refused-keeps-all : (p : Page) (q : Request) (why : Refusal) → stepOf p q .answer ≡ Answer.Refused why → stepOf p q .page ≡ p
-unfolding stepOf decideOf
+unfolding stepOf editedIn
 refused-keeps-all p q why = go (soundOf p) (judged q)
   where
     go : (t : Bool) (v : Verdict) → cond t (stepped p q v) (refusedBy p Refusal.Unsound) .answer ≡ Answer.Refused why
@@ -141,5 +125,4 @@ refused-keeps-all p q why = go (soundOf p) (judged q)
     go true Verdict.Passed e =
         let found = lookFor (live (p .readers)) (soughtOf q) in
         let full = leb capacity (p .readers .len) in
-        let st = stepAt (headOf p) q found full in
-        refused-keeps p st (verdict (st .premises)) why (accepts-all (headOf p) q found full) e
+        ap (λ (d : Decision). applied p d .page) (decide-keeps (headOf p) q found full why e)

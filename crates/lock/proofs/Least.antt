@@ -23,17 +23,18 @@ use Rattle.steps.specs.declared.Request.{Request}
 use Rattle.steps.specs.declared.Verdict.{Verdict}
 use Rattle.steps.specs.Answers.{answerNumber}
 use Rattle.steps.specs.Requests.{isStep, fieldsFit, bucketFits, judged}
-use Rattle.steps.specs.Decide.{stepAt, soughtOf, decideOf}
+use Rattle.steps.specs.Decide.{soughtOf}
 use Rattle.lock.specs.Step.{lookFor, stepOf, stepped}
 use Rattle.lock.specs.Applies.{applies2, applies3, applies4, applying}
+use Rattle.lock.proofs.Passes.{step-most}
 use Rattle.lock.proofs.Cells.{pastLast}
 use Rattle.lock.proofs.Numbered.{decided-number}
 use Rattle.lock.proofs.Tables.{Bounds, bounds, tabled-at}
-use Rattle.lock.proofs.Fields.{step-past, step-known, fields-fit, bucket-fits}
+use Rattle.lock.proofs.Fields.{step-known, fields-fit, bucket-fits}
 
 -- a step's number is at most 24
 pub step-below : (n : ℕ) → T (isStep n) → n < pastLast
-step-below = step-past
+step-below n t = omega (arith, step-most n t)
 
 -- ---- the numbers in front
 -- 2, 3 and 4, and what follows where the fields are in order
@@ -69,11 +70,8 @@ module _ (p : Page) (q : Request) where
       go false f g = refl
 
   decided-no : Bounds p → T (isStep (q .step)) → decidedNo ≡ tabledNo
-  unfolding decideOf
   decided-no within t =
-      let st = stepAt (headOf p) q (lookFor (live (p .readers)) (soughtOf q)) (leb capacity (p .readers .len)) in
-      let e = tabled-at p within q t in
-      decided-number (headOf p) st (e .0) ∙ e .1
+      decided-number (headOf p) q (lookFor (live (p .readers)) (soughtOf q)) (leb capacity (p .readers .len)) ∙ tabled-at p within q t
 
   sound-number : Bounds p → soundOf p ≡ true → answerNumber (stepOf p q .answer) ≡ firstBroken 1 (map not (applying p q))
   unfolding stepOf
@@ -81,7 +79,7 @@ module _ (p : Page) (q : Request) where
       rw e
       (judged-number
       ∙ front (isStep (q .step)) (fieldsFit q) (bucketFits q) decidedNo tabledNo (applies2 q) (applies3 q) (applies4 q)
-      (step-known (q .step)) (λ i.
+      (step-known q) (λ i.
       let t = is-true i in
       let below = step-below (q .step) t in
       (fields-fit q below, bucket-fits q below, decided-no within t)))

@@ -1,18 +1,18 @@
--- What both halves of the theorem use: what it is to be accepted; what a request that is judged well formed says of its
--- fields; the flags of step 23 and what step 7 expects, in the relation's words; the list taken apart at the first equal
--- reader; the counts after one is set. Assumes nothing.
-use Prim.Native.Nat.{ℕ, _+_, _≤_, _<_}
+-- What both halves of the theorem use: what it is to be accepted (`Accepts`); the flags of step 23 and what step 7 expects, in
+-- the relation's words (`Open`, `Expects`); the list taken apart at the first equal reader (`find-first`, `split`); the counts
+-- after one is set (`is-set`). Assumes nothing.
+use Prim.Native.Nat.{ℕ, _+_, _<_}
 use mathlib.Core.Path.{_≡_, refl, sym, ap, _∙_}
 use mathlib.Core.Logic.{_⊎_, inl, inr, _≢_}
-use mathlib.Core.Bool.{Bool, true, false, not, cond, _&&_, _||_}
+use mathlib.Core.Bool.{Bool, true, false, not, cond}
 use mathlib.Core.List.{List, [], _∷_, _++_}
 use native.Mathlib.Omega.{arith}
 use native.Mathlib.Numerals.{add-one}
-use lib.Dec.{T, eqb, leb, leb→le}
+use lib.Dec.{T, eqb, leb}
 use lib.ListN.{length, take, drop, getD, set, length-set}
 use lib.Seq.{split-at, set-split, ext-getD}
 use borrow.Author.Tests.{eqb-true, eqb-false, eq-eqb, ne-eqb}
-use Rattle.kinds.specs.Limits.{buckets, capacity}
+use Rattle.kinds.specs.Limits.{capacity}
 use Rattle.kinds.specs.Flags.{openToReaders}
 use Rattle.kinds.specs.declared.Count.{Count}
 use Rattle.kinds.specs.declared.MaybeBucket.{MaybeBucket}
@@ -32,18 +32,14 @@ use Rattle.page_record.specs.Pages.{numberAt}
 use Rattle.page_record.specs.References.{refAt}
 use Rattle.steps.specs.declared.Refusal.{Refusal}
 use Rattle.steps.specs.declared.Answer.{Answer}
-use Rattle.steps.specs.declared.Verdict.{Verdict}
 use Rattle.steps.specs.declared.Sought.{Sought}
 use Rattle.steps.specs.declared.Request.{Request}
 use Rattle.steps.specs.declared.Decision.{Decision}
 use Rattle.steps.specs.Premises.{Step, decided}
-use Rattle.steps.specs.Requests.{lastStep, takesBucket, takesClean, takesValue, formal, judged}
 use Rattle.steps.specs.Steps.{isFound, placeOf}
 use Rattle.steps.specs.Decide.{unknown, steps, sought, decideOf, soughtOf}
 use Rattle.lock.specs.Step.{edited, lookFor, decidedOn}
 use Rattle.lock.specs.Moves.{some, Absent, answerOf}
-use Rattle.steps.proofs.Verdicts.{passed}
-use Rattle.lock.proofs.Passes.{judged-bucket}
 use Rattle.lock.proofs.Cells.{found-first}
 use Rattle.lock.proofs.Counts.{set-there, set-others}
 
@@ -79,30 +75,6 @@ stepNo h l q n = getD (steps h q (lookFor l (getD (sought q) n Sought.Nobody)) (
 pub by-number : (h : Head) (l : List Reader) (q : Request) → decidedOn h l q ≡ decided h (stepNo h l q (q .step))
 unfolding decideOf soughtOf
 by-number h l q = refl
-
--- ---- a request that is judged well formed
-pub record Formed (q : Request) : Type 0 where
-  pub most : q .step ≤ lastStep
-  pub bucket : q .bucket .0 < buckets
-  pub clean : q .clean ≤ 1
-
-clean-below : (t : Bool) (c : ℕ) → T (leb c (cond t 1 0)) → c ≤ 1
-clean-below true c t = leb→le c 1 t
-clean-below false c t = omega (arith, leb→le c 0 t)
-
-pub formed : (q : Request) → judged q ≡ Verdict.Passed → Formed q
-unfolding judged
-formed q e =
-    let p = passed (formal q) e in
-    let n = q .step in
-    let bucket = takesBucket n || eqb (q .bucket .0) 0 in
-    let clean = leb (q .clean) (cond (takesClean n) 1 0) in
-    let fields = halves bucket clean (halves (bucket && clean) (takesValue n || eqb (q .value) 0) (p .1 .0) .0) in
-    record {
-      most = leb→le n lastStep (halves (leb 1 n) (leb n lastStep) (p .0) .1);
-      bucket = judged-bucket q e;
-      clean = clean-below (takesClean n) (q .clean) (fields .1);
-    }
 
 -- ---- the relation's words and the tests
 -- the five flags of step 23

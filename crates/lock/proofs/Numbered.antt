@@ -7,14 +7,18 @@ use mathlib.Core.Path.{_≡_, refl, ap, _∙_}
 use mathlib.Core.Bool.{Bool, true, false, not, cond, _&&_, Bool·not-not}
 use mathlib.Core.List.{List, [], _∷_, map}
 use native.Mathlib.Omega.{arith}
-use lib.Dec.{eqb, ltb, leb}
+use lib.Dec.{eqb, ltb, leb, eqb→eq}
 use borrow.Author.Tests.{lt-ltb, le-ltb, lt-leb, ne-eqb, leb-true, leb-false, eqb-true, eqb-false}
+use Rattle.readers.specs.declared.Found.{Found}
 use Rattle.page_record.specs.declared.Head.{Head}
 use Rattle.page_record.specs.Rules.{firstBroken}
+use Rattle.page_record.proofs.Tested.{every-default}
 use Rattle.steps.specs.declared.Refusal.{Refusal}
 use Rattle.steps.specs.declared.Verdict.{Verdict}
+use Rattle.steps.specs.declared.Request.{Request}
 use Rattle.steps.specs.Answers.{refusalNumber, answerNumber}
-use Rattle.steps.specs.Premises.{Step, verdict, decided, settled}
+use Rattle.steps.specs.Premises.{Step, verdict, settled}
+use Rattle.steps.specs.Decide.{unknown, steps, stepAt, decideOf}
 
 -- ---- tests
 -- a number is at most another just if that one is not below it
@@ -68,12 +72,21 @@ verdict-number (c ∷ cs) = go (c .1) (verdict-number cs)
     go true e = e
     go false e = refl
 
-pub decided-number : (h : Head) (st : Step) → answerNumber (st .answer) ≡ 0 → answerNumber (decided h st .answer) ≡ numbered (st .premises)
-decided-number h st e = go (verdict (st .premises)) ∙ verdict-number (st .premises)
-  where
-    go : (v : Verdict) → answerNumber (settled h st v .answer) ≡ numberOf v
-    go Verdict.Passed = e
-    go (Verdict.Failed why) = refl
+-- a step never answers with a refusal of its own, so what is answered is that number
+module _ (h : Head) (q : Request) (found : Found) (full : Bool) where
+  abbrev accepting : Step → Bool
+  accepting st = eqb (answerNumber (st .answer)) 0
+
+  accepts-all : answerNumber (stepAt h q found full .answer) ≡ 0
+  accepts-all = eqb→eq _ 0 (every-default accepting (steps h q found full) (q .step) (unknown h) tt tt)
+
+  pub decided-number : answerNumber (decideOf h q found full .answer) ≡ numbered (stepAt h q found full .premises)
+  unfolding decideOf
+  decided-number = go (verdict (stepAt h q found full .premises)) ∙ verdict-number (stepAt h q found full .premises)
+    where
+      go : (v : Verdict) → answerNumber (settled h (stepAt h q found full) v .answer) ≡ numberOf v
+      go Verdict.Passed = accepts-all
+      go (Verdict.Failed why) = refl
 
 -- premises with the numbers 5 to 11, and those numbers in the table: 7, 8 and 9 speak of the holder, so they apply only
 -- where it is there

@@ -33,7 +33,6 @@ use Rattle.page_record.proofs.Shapes.{by-shape}
 use Rattle.page_record.proofs.Tested.{facts}
 use Rattle.steps.specs.declared.Refusal.{Refusal}
 use Rattle.steps.specs.declared.Request.{Request}
-use Rattle.steps.specs.Answers.{answerNumber}
 use Rattle.steps.specs.Premises.{Step}
 use Rattle.steps.specs.Requests.{isStep}
 use Rattle.steps.specs.Steps.{isFound, reader}
@@ -41,10 +40,10 @@ use Rattle.steps.specs.Decide.{stepAt, soughtOf}
 use Rattle.lock.specs.Words.{among, raising, listing}
 use Rattle.lock.specs.Step.{lookFor}
 use Rattle.lock.specs.Applies.{flagLets, lists, holderThere, bucketWrong, visitedWrong, countOther, applying}
+use Rattle.lock.proofs.Passes.{step-most}
 use Rattle.lock.proofs.Pick.{Below, _&_, pick}
 use Rattle.lock.proofs.Cells.{pastLast}
 use Rattle.lock.proofs.Numbered.{numbered, tabled, premised-tabled, below-limit, at-limit}
-use Rattle.lock.proofs.Fields.{step-past}
 
 -- ---- what soundness adds: a count is at most 31, a visited number at most 4, a length at most 64
 pub record Bounds (p : Page) : Type 0 where
@@ -253,17 +252,20 @@ module _ (p : Page) (within : Bounds p) (b : Bucket) (clean value : ℕ) where
       rw (loading-lets (p .flag), found-from 0 (live (p .readers)) (reader Phase.Pending2 b))
       (premised-tabled (flagLets 24 (p .flag)) (lists (live (p .readers)) Phase.Pending2 b) false false false false false)
 
-  abbrev Entry : ℕ → Type 0
-  Entry n = T (isStep n) → (answerNumber (stepNo n .answer) ≡ 0) × Tabled n
-
-  entries : Below pastLast Entry
-  entries = (λ t. absurd t) & (λ t. (refl, tabled1)) & (λ t. (refl, tabled2)) & (λ t. (refl, tabled3)) & (λ t. (refl, tabled4)) & (λ t. (refl, tabled5)) & (λ t. (refl, tabled6)) & (λ t. (refl, tabled7)) & (λ t. (refl, tabled8)) & (λ t. (refl, tabled9)) & (λ t. (refl, tabled10)) & (λ t. (refl, tabled11)) & (λ t. (refl, tabled12)) & (λ t. (refl, tabled13)) & (λ t. (refl, tabled14)) & (λ t. (refl, tabled15)) & (λ t. (refl, tabled16)) & (λ t. (refl, tabled17)) & (λ t. (refl, tabled18)) & (λ t. (refl, tabled19)) & (λ t. (refl, tabled20)) & (λ t. (refl, tabled21)) & (λ t. (refl, tabled22)) & (λ t. (refl, tabled23)) & (λ t. (refl, tabled24)) & tt
+  -- no step has number 0
+  entries : Below pastLast (λ n. T (isStep n) → Tabled n)
+  entries =
+      absurd
+      & (λ _. tabled1) & (λ _. tabled2) & (λ _. tabled3) & (λ _. tabled4) & (λ _. tabled5) & (λ _. tabled6)
+      & (λ _. tabled7) & (λ _. tabled8) & (λ _. tabled9) & (λ _. tabled10) & (λ _. tabled11) & (λ _. tabled12)
+      & (λ _. tabled13) & (λ _. tabled14) & (λ _. tabled15) & (λ _. tabled16) & (λ _. tabled17) & (λ _. tabled18)
+      & (λ _. tabled19) & (λ _. tabled20) & (λ _. tabled21) & (λ _. tabled22) & (λ _. tabled23) & (λ _. tabled24)
+      & tt
 
 -- the step that a request names
 pub tabled-at : (p : Page) → Bounds p → (q : Request) → T (isStep (q .step))
-    → (answerNumber (stepAt (headOf p) q (lookFor (live (p .readers)) (soughtOf q)) (leb capacity (p .readers .len)) .answer) ≡ 0)
-    × (numbered (stepAt (headOf p) q (lookFor (live (p .readers)) (soughtOf q)) (leb capacity (p .readers .len)) .premises)
-    ≡ firstBroken 5 (map not (drop 4 (applying p q))))
+    → numbered (stepAt (headOf p) q (lookFor (live (p .readers)) (soughtOf q)) (leb capacity (p .readers .len)) .premises)
+    ≡ firstBroken 5 (map not (drop 4 (applying p q)))
 tabled-at p within q t =
-    pick pastLast (Entry p within (q .bucket) (q .clean) (q .value)) (entries p within (q .bucket) (q .clean) (q .value))
-    (q .step) (step-past (q .step) t) t
+    pick pastLast (λ (n : ℕ). T (isStep n) → Tabled p within (q .bucket) (q .clean) (q .value) n)
+    (entries p within (q .bucket) (q .clean) (q .value)) (q .step) (omega (arith, step-most (q .step) t)) t
