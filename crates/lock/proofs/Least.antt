@@ -1,22 +1,24 @@
--- The answer's number is the lowest of document 01's numbers that applies: `least-number`, for every page and request, sound
+-- The answer's number is the lowest of document 01's numbers that applies (`least-number`), for every page and request, sound
 -- and well formed or not. So a number is given just if it applies and no lower one does (`number-first`), and 0 just if none
 -- does (`number-none`). 1 is the page's, 2 to 4 are the request's (Fields.antt), 5 to 11 the step's own (Tables.antt).
 -- Assumes nothing.
-use Prim.Native.Nat.{ℕ, suc, _<_}
-use mathlib.Core.Path.{_≡_, refl, _∙_}
+use Prim.Native.Nat.{ℕ, zero, suc, _≤_, _<_}
+use mathlib.Core.Path.{_≡_, refl, sym, ap, subst, _∙_}
 use mathlib.Core.Logic.{_↔_}
-use mathlib.Core.Bool.{Bool, true, false, not, cond}
+use mathlib.Core.Bool.{Bool, true, false, not, cond, true≢false}
 use mathlib.Core.List.{map}
 use native.Mathlib.Omega.{arith}
-use lib.Dec.{T, eqb, leb}
-use lib.ListN.{drop}
+use lib.Dec.{T, leb}
+use lib.ListN.{getD, drop, List·getD-map}
+use borrow.Author.Tests.{eq-eqb, not-true, not-false}
 use Rattle.kinds.specs.Limits.{capacity}
 use Rattle.readers.specs.Lists.{every}
 use Rattle.readers.specs.Listed.{live}
-use Rattle.readers.proofs.Tests.{is-true}
+use Rattle.readers.proofs.Tests.{is-true, to-false}
 use Rattle.page_record.specs.declared.Page.{Page}
 use Rattle.page_record.specs.Pages.{headOf}
 use Rattle.page_record.specs.Rules.{soundOf, firstBroken}
+use Rattle.page_record.proofs.Tested.{every-default}
 use Rattle.page_record.proofs.Broken.{FirstFalse, first-false, none-broken}
 use Rattle.steps.specs.declared.Refusal.{Refusal}
 use Rattle.steps.specs.declared.Request.{Request}
@@ -25,7 +27,7 @@ use Rattle.steps.specs.Answers.{answerNumber}
 use Rattle.steps.specs.Requests.{isStep, fieldsFit, bucketFits, judged}
 use Rattle.steps.specs.Decide.{soughtOf}
 use Rattle.lock.specs.Step.{lookFor, stepOf, stepped}
-use Rattle.lock.specs.Applies.{applies2, applies3, applies4, applying}
+use Rattle.lock.specs.Applies.{applies2, applies3, applies4, applying, applies}
 use Rattle.lock.proofs.Passes.{step-most}
 use Rattle.lock.proofs.Cells.{pastLast}
 use Rattle.lock.proofs.Numbered.{decided-number}
@@ -97,10 +99,49 @@ least-number p q = go (soundOf p) refl
     go true e = sound-number p q (bounds p (is-true e)) e
     go false e = unsound-number p q e
 
--- so a number that is given applies, and no lower one does
-pub number-first : (p : Page) (q : Request) (k : ℕ) → answerNumber (stepOf p q .answer) ≡ suc k ↔ FirstFalse (map not (applying p q)) k
-number-first p q k = rw (least-number p q) (first-false (map not (applying p q)) k)
+-- ---- the same, number by number
+-- the number n applies, and no lower one does
+pub record Lowest (p : Page) (q : Request) (n : ℕ) : Type 0 where
+  pub applies-here : applies n p q ≡ true
+  pub none-lower : (m : ℕ) → 1 ≤ m → m < n → applies m p q ≡ false
 
--- and 0 is given just if none applies
-pub number-none : (p : Page) (q : Request) → eqb (answerNumber (stepOf p q .answer)) 0 ≡ every (λ t. t) (map not (applying p q))
-number-none p q = rw (least-number p q) (none-broken 1 (map not (applying p q)) (omega arith))
+module _ (p : Page) (q : Request) where
+  -- the test at place k of the table is that the number k + 1 does not apply
+  not-at : (k : ℕ) → getD (map not (applying p q)) k true ≡ not (applies (suc k) p q)
+  not-at k = List·getD-map not (applying p q) k false
+
+  lowest : (k : ℕ) → FirstFalse (map not (applying p q)) k → Lowest p q (suc k)
+  lowest k f = record { applies-here = not-false _ (sym (not-at k) ∙ f .fails); none-lower = lower }
+    where
+      lower : (m : ℕ) → 1 ≤ m → m < suc k → applies m p q ≡ false
+      lower zero one below = refl
+      lower (suc i) one below = not-true _ (sym (not-at i) ∙ f .earlier i (omega arith))
+
+  first : (k : ℕ) → Lowest p q (suc k) → FirstFalse (map not (applying p q)) k
+  first k l = record {
+    fails = not-at k ∙ ap not (l .applies-here);
+    earlier = λ i below. not-at i ∙ ap not (l .none-lower (suc i) (omega arith) (omega arith));
+  }
+
+  -- a number is given just if it applies and no lower one does
+  pub number-first : (n : ℕ) → 1 ≤ n → answerNumber (stepOf p q .answer) ≡ n ↔ Lowest p q n
+  number-first zero h = absurd (omega arith)
+  number-first (suc k) h =
+      let place = first-false (map not (applying p q)) k in
+      rw (least-number p q) ((λ e. lowest k (place .0 e)), (λ l. place .1 (first k l)))
+
+  -- 0 is given just if none applies
+  pub number-none : answerNumber (stepOf p q .answer) ≡ 0 ↔ ((n : ℕ) → applies n p q ≡ false)
+  number-none = (none, zero-is (answerNumber (stepOf p q .answer)) refl)
+    where
+      none : answerNumber (stepOf p q .answer) ≡ 0 → (n : ℕ) → applies n p q ≡ false
+      none e zero = refl
+      none e (suc k) =
+          let ts = map not (applying p q) in
+          let all : every (λ t. t) ts ≡ true = sym (none-broken 1 ts (omega arith)) ∙ eq-eqb _ 0 (sym (least-number p q) ∙ e) in
+          to-false _ (subst T (not-at k) (every-default (λ t. t) ts k true (is-true all) tt))
+
+      zero-is : (r : ℕ) → answerNumber (stepOf p q .answer) ≡ r → ((n : ℕ) → applies n p q ≡ false) → r ≡ 0
+      zero-is zero e free = refl
+      zero-is (suc k) e free =
+          absurd (true≢false (sym (number-first (suc k) (omega arith) .0 e .applies-here) ∙ free (suc k)))

@@ -154,6 +154,6 @@ applying p q =
     ∷ applies11 p q
     ∷ []
 
--- the number n, 1 to 11, applies
+-- the number n, 1 to 11, applies; any other n does not
 abbrev pub applies : ℕ → Page → Request → Bool
 applies n p q = getD (false ∷ applying p q) n false
