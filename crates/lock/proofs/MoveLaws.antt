@@ -7,10 +7,9 @@ use mathlib.Core.Logic.{_⊎_, inl, inr, _≢_}
 use mathlib.Core.Bool.{Bool, true, false, not, cond}
 use mathlib.Core.List.{List, [], _∷_, _++_}
 use native.Mathlib.Omega.{arith}
-use native.Mathlib.Numerals.{add-one}
 use lib.Dec.{T, eqb, leb}
 use lib.ListN.{length, take, drop, getD, set, length-set}
-use lib.Seq.{split-at, set-split, ext-getD}
+use lib.Seq.{ext-getD}
 use borrow.Author.Tests.{eqb-true, eqb-false, eq-eqb, ne-eqb}
 use Rattle.kinds.specs.Limits.{capacity}
 use Rattle.kinds.specs.Flags.{openToReaders}
@@ -25,7 +24,7 @@ use Rattle.readers.specs.Same.{sameReader}
 use Rattle.readers.specs.Listed.{findIn, blankReader}
 use Rattle.readers.proofs.Tests.{both, halves, to-true, is-true}
 use Rattle.readers.proofs.Equal.{same-refl, same-is}
-use Rattle.readers.proofs.First.{absent, find-split}
+use Rattle.readers.proofs.First.{absent, found, split-of-found, find-split, removed-first, put-first}
 use Rattle.page_record.specs.declared.Head.{Head}
 use Rattle.page_record.specs.Holders.{bucketOf}
 use Rattle.page_record.specs.Pages.{numberAt}
@@ -40,7 +39,6 @@ use Rattle.steps.specs.Steps.{isFound, placeOf}
 use Rattle.steps.specs.Decide.{unknown, steps, sought, decideOf, soughtOf}
 use Rattle.lock.specs.Step.{edited, lookFor, decidedOn}
 use Rattle.lock.specs.Moves.{some, Absent, answerOf}
-use Rattle.lock.proofs.Cells.{found-first}
 use Rattle.lock.proofs.Counts.{set-there, set-others}
 
 -- ---- acceptance
@@ -150,20 +148,24 @@ pub record Split (x : Reader) (l : List Reader) (i : ℕ) : Type 0 where
   pub equal : getD l i blankReader ≡ x
 
 pub split : (l : List Reader) (x : Reader) → T (isFound (findIn l x)) → Split x l (placeOf (findIn l x))
-split l x t =
-    let i = placeOf (findIn l x) in
-    let f = found-first l x t in
-    let inside : i < length l = f .inside in
-    record {
-      before = take i l;
-      after = drop (i + 1) l;
-      whole = split-at l i blankReader inside ∙ rw (f .equal, ← add-one i);
-      first = is-absent x (take i l) (f .before);
-      removed = refl;
-      put = λ y. rw add-one (set-split l i y inside);
-      inside = inside;
-      equal = f .equal;
-    }
+split l x = go (findIn l x) refl
+  where
+    go : (o : Found) → findIn l x ≡ o → T (isFound o) → Split x l (placeOf o)
+    go Found.Nowhere e t = absurd t
+    go (Found.At i) e t =
+        let f = found x l i e in
+        let whole = split-of-found x l i e in
+        let there = ap (λ (m : List Reader). findIn m x) (sym whole) ∙ e in
+        record {
+          before = take i l;
+          after = drop (i + 1) l;
+          whole = whole;
+          first = is-absent x (take i l) (f .before);
+          removed = ap (without i) whole ∙ removed-first x (take i l) (drop (i + 1) l) (f .before) i there;
+          put = λ y. ap (λ (m : List Reader). set m i y) whole ∙ put-first x (take i l) (drop (i + 1) l) (f .before) i there y;
+          inside = f .inside;
+          equal = f .equal;
+        }
 
 -- ---- the counts: the one that is set, and the others
 module _ (cs : List Count) (a n : ℕ) where
