@@ -11,6 +11,7 @@ pub mod Numbered
 pub mod Fields
 pub mod Tables
 pub mod Least
+pub mod MoveFlags
 pub mod MoveLaws
 pub mod MoveFacts
 pub mod Takes

@@ -1,6 +1,6 @@
--- What both halves of the theorem use: what it is to be accepted (`Accepts`); the flags of step 23 and what step 7 expects, in
--- the relation's words (`Open`, `Expects`); the list taken apart at the first equal reader (`find-first`, `split`); the counts
--- after one is set (`is-set`). Assumes nothing.
+-- What both halves of the theorem use: what it is to be accepted (`Accepts`); what step 7 expects, in the relation's words
+-- (`Expects`); the list taken apart at the first equal reader (`find-first`, `split`); the counts after one is set (`is-set`).
+-- The flags are in MoveFlags.antt. Assumes nothing.
 use Prim.Native.Nat.{ℕ, _+_, _<_}
 use mathlib.Core.Path.{_≡_, refl, sym, ap, _∙_}
 use mathlib.Core.Logic.{_⊎_, inl, inr, _≢_}
@@ -12,10 +12,8 @@ use lib.ListN.{length, take, drop, getD, set, length-set}
 use lib.Seq.{ext-getD}
 use borrow.Author.Tests.{eqb-true, eqb-false, eq-eqb, ne-eqb}
 use Rattle.kinds.specs.Limits.{capacity}
-use Rattle.kinds.specs.Flags.{openToReaders}
 use Rattle.kinds.specs.declared.Count.{Count}
 use Rattle.kinds.specs.declared.MaybeBucket.{MaybeBucket}
-use Rattle.kinds.specs.declared.Flag.{Flag}
 use Rattle.kinds.specs.declared.Storage.{Storage}
 use Rattle.kinds.specs.declared.Reader.{Reader}
 use Rattle.readers.specs.declared.Found.{Found}
@@ -74,31 +72,7 @@ pub by-number : (h : Head) (l : List Reader) (q : Request) → decidedOn h l q �
 unfolding decideOf soughtOf
 by-number h l q = refl
 
--- ---- the relation's words and the tests
--- the five flags of step 23
-abbrev pub Open : Flag → Type 0
-Open f = (f ≡ Flag.Available) ⊎ (f ≡ Flag.Writeback) ⊎ (f ≡ Flag.Claimed) ⊎ (f ≡ Flag.WritebackAndClaimed) ⊎ (f ≡ Flag.Loading)
-
-pub is-open : (f : Flag) → Open f → openToReaders f ≡ true
-is-open f (inl e) = rw e
-is-open f (inr (inl e)) = rw e
-is-open f (inr (inr (inl e))) = rw e
-is-open f (inr (inr (inr (inl e)))) = rw e
-is-open f (inr (inr (inr (inr e)))) = rw e
-
-pub opened : (f : Flag) → T (openToReaders f) → Open f
-opened Flag.Unmapped t = absurd t
-opened Flag.Loading t = inr (inr (inr (inr refl)))
-opened Flag.LoadingExcLock t = absurd t
-opened Flag.Available t = inl refl
-opened Flag.Claimed t = inr (inr (inl refl))
-opened Flag.Writeback t = inr (inl refl)
-opened Flag.WritebackAndClaimed t = inr (inr (inr (inl refl)))
-opened Flag.WritebackAndPendingExcLock t = absurd t
-opened Flag.PendingExcLock t = absurd t
-opened Flag.ExcLockClean t = absurd t
-opened Flag.ExcLockDirty t = absurd t
-
+-- ---- step 7, in the relation's words
 -- what step 7 expects at bucket n of an editor that has bucket m
 abbrev pub Expects : MaybeBucket → ℕ → ℕ → Type 0
 Expects m n c = ((some (record { 0 = n }) ≡ m) × (c ≡ 1)) ⊎ ((some (record { 0 = n }) ≢ m) × (c ≡ 0))
