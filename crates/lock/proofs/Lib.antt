@@ -17,3 +17,4 @@ pub mod MoveFacts
 pub mod Takes
 pub mod Fits
 pub mod Exact
+pub mod Machine
