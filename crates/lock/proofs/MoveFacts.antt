@@ -35,20 +35,20 @@ pub record Granted (h : Head) : Type 0 where
       → (h .storage ≡ Storage.Out) × T (validBucket (loadingBucket (h .«loading_state»)))
 
 granted-at : (z : Shape) (cs : List Count) → T (valid z) → Granted (headAt z cs)
-granted-at (Shapes.unmapped v) cs ok = search (absurd, inl, inr)
-granted-at Shapes.waiting cs ok = search (absurd, inl, inr)
-granted-at (Shapes.counted b) cs ok = search (absurd, inl, inr)
-granted-at (Shapes.loaded m) cs ok = search (absurd, inl, inr)
-granted-at (Shapes.available v) cs ok = search (absurd, inl, inr)
-granted-at (Shapes.claimed m v) cs ok = search (absurd, inl, inr)
-granted-at (Shapes.writeback v) cs ok = search (absurd, inl, inr)
-granted-at (Shapes.writebackClaimed m v) cs ok = search (absurd, inl, inr)
-granted-at (Shapes.writebackAwait m v) cs ok = search (absurd, inl, inr)
-granted-at (Shapes.await m v) cs ok = search (absurd, inl, inr)
-granted-at (Shapes.pending m n true v) cs ok = search (absurd, inl, inr)
-granted-at (Shapes.pending m n false v) cs ok = search (absurd, inl, inr)
-granted-at (Shapes.editing m true) cs ok = search (absurd, inl, inr)
-granted-at (Shapes.editing m false) cs ok = search (absurd, inl, inr)
+granted-at (Shapes.unmapped v) cs ok = search absurd
+granted-at Shapes.waiting cs ok = search absurd
+granted-at (Shapes.counted b) cs ok = search absurd
+granted-at (Shapes.loaded m) cs ok = search absurd
+granted-at (Shapes.available v) cs ok = search (absurd, inl)
+granted-at (Shapes.claimed m v) cs ok = search absurd
+granted-at (Shapes.writeback v) cs ok = search (absurd, inr)
+granted-at (Shapes.writebackClaimed m v) cs ok = search absurd
+granted-at (Shapes.writebackAwait m v) cs ok = search absurd
+granted-at (Shapes.await m v) cs ok = search absurd
+granted-at (Shapes.pending m n true v) cs ok = search absurd
+granted-at (Shapes.pending m n false v) cs ok = search absurd
+granted-at (Shapes.editing m true) cs ok = search absurd
+granted-at (Shapes.editing m false) cs ok = search absurd
 
 pub granted : (h : Head) → T (headSound h) → Granted h
 granted = by-shape Granted granted-at
