@@ -1,7 +1,8 @@
 -- Acceptance is exactly the source's transition. On a head and a list of readers that are sound, a request that is well formed
 -- is accepted just if `Moves` allows it and the limits leave room, with that next state and that value handed out
 -- (`exact-parts`). Over pages this holds with no premise (`exact`): what is asked of the page and of the request is part of
--- what acceptance is. So a request has no second outcome (`no-second-move`). Assumes nothing.
+-- what acceptance is. So on a sound page, where the limits leave room, `Moves` allows a well-formed request at most one next
+-- state and one value handed out (`no-second-move`). Assumes nothing.
 use mathlib.Core.Path.{_≡_, refl, sym, ap, _∙_, subst}
 use mathlib.Core.Logic.{_↔_}
 use mathlib.Core.Bool.{Bool, true, false}
@@ -107,7 +108,7 @@ module _ (p p′ : Page) (q : Request) (out : Storage) where
           let m = exact-parts (headOf p) l q s (a .well-formed) (headOf p′) (live (p′ .readers)) out .1 (a .moves, a .room) in
           step-listed q (a .well-formed) p (a .sound) ∙ of-parts (decidedOn (headOf p) l q) l m (a .neat)
 
--- ---- no second outcome
+-- ---- no second outcome, where there is a first that the limits leave room for
 -- a state's head: with the state's list of readers it makes up the state
 abbrev headIn : RwLock → Head
 headIn r = record {
@@ -119,6 +120,7 @@ headIn r = record {
   «writeback_state» = r .writeback-state;
 }
 
+-- two moves of one well-formed request on one sound page, with room: they agree in state and in what is handed out
 pub no-second-move : (p : Page) (q : Request) → T (soundOf p) → judged q ≡ Verdict.Passed → Room (stateOf p) q
     → (post post″ : RwLock) (out out″ : Storage) → Moves (stateOf p) q post out → Moves (stateOf p) q post″ out″
     → (post ≡ post″) × (out ≡ out″)
