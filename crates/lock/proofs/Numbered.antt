@@ -1,10 +1,10 @@
 -- A list of premises as a number: that of the first that fails (`numbered`), which is the number that a decided step answers
 -- (`decided-number`). The numbers 5 to 11 in the words of document 01's table come to the same (`premised-tabled`). Where the
--- table says "is 31" or "is 4" and a step tests "below", the two agree up to that limit (`below-limit`, `at-limit`).
+-- table says "is 31" or "is 4" and a step tests "below", the two agree up to that limit (`limit-not-below`, `limit-reached`).
 -- Assumes nothing.
 use Prim.Native.Nat.{ℕ, zero, suc, _≤_, _<_}
-use mathlib.Core.Path.{_≡_, refl, ap, _∙_}
-use mathlib.Core.Bool.{Bool, true, false, not, cond, _&&_, Bool·not-not}
+use mathlib.Core.Path.{_≡_, refl, sym, _∙_}
+use mathlib.Core.Bool.{Bool, true, false, not, cond, _&&_}
 use mathlib.Core.List.{List, [], _∷_, map}
 use native.Mathlib.Omega.{arith}
 use lib.Dec.{eqb, ltb, leb, eqb→eq}
@@ -37,11 +37,11 @@ pub leb-zero : (a : ℕ) → leb a 0 ≡ eqb a 0
 leb-zero zero = refl
 leb-zero (suc a) = rw (lt-leb (suc a) 0 (omega arith), ne-eqb (suc a) 0 (λ e. omega arith))
 
--- where it is at most the limit, "below" is "not the limit"
-pub below-limit : (a b : ℕ) → a ≤ b → ltb a b ≡ not (eqb a b)
-below-limit a b h = go (eqb a b) refl
+-- where it is at most the limit, it is the limit just if it is not below it
+pub limit-not-below : (a b : ℕ) → a ≤ b → eqb a b ≡ not (ltb a b)
+limit-not-below a b h = go (eqb a b) refl
   where
-    go : (t : Bool) → eqb a b ≡ t → ltb a b ≡ not (eqb a b)
+    go : (t : Bool) → eqb a b ≡ t → eqb a b ≡ not (ltb a b)
     go true e =
         let k = eqb-true a b e in
         let l : b ≤ a = omega arith in
@@ -51,8 +51,8 @@ below-limit a b h = go (eqb a b) refl
         let l : a < b = omega arith in
         rw (e, lt-ltb a b l)
 
-pub at-limit : (a b : ℕ) → a ≤ b → leb b a ≡ eqb a b
-at-limit a b h = leb-ltb b a ∙ ap not (below-limit a b h) ∙ Bool·not-not (eqb a b)
+pub limit-reached : (a b : ℕ) → a ≤ b → eqb a b ≡ leb b a
+limit-reached a b h = limit-not-below a b h ∙ sym (leb-ltb b a)
 
 -- ---- verdicts as numbers
 abbrev numberOf : Verdict → ℕ
@@ -68,7 +68,8 @@ verdict-number : (cs : List (Refusal × Bool)) → numberOf (verdict cs) ≡ num
 verdict-number [] = refl
 verdict-number (c ∷ cs) = go (c .1) (verdict-number cs)
   where
-    go : (t : Bool) → numberOf (verdict cs) ≡ numbered cs → numberOf (cond t (verdict cs) (Verdict.Failed (c .0))) ≡ cond t (numbered cs) (refusalNumber (c .0))
+    go : (t : Bool) → numberOf (verdict cs) ≡ numbered cs
+        → numberOf (cond t (verdict cs) (Verdict.Failed (c .0))) ≡ cond t (numbered cs) (refusalNumber (c .0))
     go true e = e
     go false e = refl
 
@@ -88,28 +89,39 @@ module _ (h : Head) (q : Request) (found : Found) (full : Bool) where
       go Verdict.Passed = accepts-all
       go (Verdict.Failed why) = refl
 
--- premises with the numbers 5 to 11, and those numbers in the table: 7, 8 and 9 speak of the holder, so they apply only
--- where it is there
+-- ---- the numbers 5 to 11
+-- as premises of a step: a premise that it doesn't have holds
 abbrev premised : Bool → Bool → Bool → Bool → Bool → Bool → Bool → ℕ
-premised flag holder bucket visited count ceiling room =
+premised flag holder bucket visited count under full =
     numbered
     ((Refusal.WrongFlag, flag)
     ∷ (Refusal.NoHolder, holder)
-    ∷ (Refusal.WrongBucket, not bucket)
-    ∷ (Refusal.WrongVisited, not visited)
-    ∷ (Refusal.OtherCount, not count)
-    ∷ (Refusal.AtCeiling, not ceiling)
-    ∷ (Refusal.ListFull, not room)
+    ∷ (Refusal.WrongBucket, bucket)
+    ∷ (Refusal.WrongVisited, visited)
+    ∷ (Refusal.OtherCount, count)
+    ∷ (Refusal.AtCeiling, under)
+    ∷ (Refusal.ListFull, not full)
     ∷ [])
 
+-- as the table has them: 7, 8 and 9 speak of the holder, so they apply only where it is there
 abbrev pub tabled : Bool → Bool → Bool → Bool → Bool → Bool → Bool → ℕ
 tabled flag holder bucket visited count ceiling room =
     firstBroken 5
     (map not
     (not flag ∷ not holder ∷ (holder && bucket) ∷ (holder && visited) ∷ (holder && count) ∷ ceiling ∷ room ∷ []))
 
-pub premised-tabled : (flag holder bucket visited count ceiling room : Bool)
-    → premised flag holder bucket visited count ceiling room ≡ tabled flag holder bucket visited count ceiling room
-premised-tabled true true b v c e r = refl
-premised-tabled true false b v c e r = refl
-premised-tabled false h b v c e r = refl
+pub premised-tabled : (flag holder bucket visited count under full : Bool)
+    → premised flag holder bucket visited count under full
+    ≡ tabled flag holder (not bucket) (not visited) (not count) (not under) full
+premised-tabled false h b v c u r = refl
+premised-tabled true false b v c false r = refl
+premised-tabled true false b v c true r = refl
+premised-tabled true true false v c u r = refl
+premised-tabled true true true false c u r = refl
+premised-tabled true true true true false u r = refl
+premised-tabled true true true true true false r = refl
+premised-tabled true true true true true true r = refl
+
+-- where a step asks for a flag and a holder alone
+pub alone : (flag holder : Bool) → premised flag holder true true true true false ≡ tabled flag holder false false false false false
+alone flag holder = premised-tabled flag holder true true true true false

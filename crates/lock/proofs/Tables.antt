@@ -7,7 +7,7 @@ use mathlib.Core.Path.{_≡_, refl, ap}
 use mathlib.Core.Bool.{Bool, true, false, not, cond, _&&_, Bool·not-not}
 use mathlib.Core.List.{List, [], _∷_, map}
 use native.Mathlib.Omega.{arith}
-use lib.Dec.{T, eqb, leb, leb→le}
+use lib.Dec.{T, eqb, ltb, leb, leb→le}
 use lib.ListN.{drop}
 use Rattle.kinds.specs.Limits.{buckets, capacity, ceiling}
 use Rattle.kinds.specs.Flags.{isAvailable, claimable, writebackDone, isUnmapped, openToReaders, notLoading}
@@ -31,7 +31,6 @@ use Rattle.page_record.specs.Rules.{soundOf, firstBroken}
 use Rattle.page_record.specs.Shapes.{Shape, unmapped, waiting, counted, loaded, available, claimed, writeback, writebackClaimed, writebackAwait, await, pending, editing, headAt, valid}
 use Rattle.page_record.proofs.Shapes.{by-shape}
 use Rattle.page_record.proofs.Tested.{facts}
-use Rattle.steps.specs.declared.Refusal.{Refusal}
 use Rattle.steps.specs.declared.Request.{Request}
 use Rattle.steps.specs.Premises.{Step}
 use Rattle.steps.specs.Requests.{isStep}
@@ -43,7 +42,7 @@ use Rattle.lock.specs.Applies.{flagLets, lists, holderThere, bucketWrong
 use Rattle.lock.proofs.Passes.{step-most}
 use Rattle.lock.proofs.Pick.{Below, _&_, pick}
 use Rattle.lock.proofs.Cells.{pastLast}
-use Rattle.lock.proofs.Numbered.{numbered, tabled, premised-tabled, below-limit, at-limit}
+use Rattle.lock.proofs.Numbered.{limit-not-below, limit-reached, numbered, tabled, premised-tabled, alone}
 
 -- ---- what soundness adds: a count is at most 31, a visited number at most 4, a length at most 64
 pub record Bounds (p : Page) : Type 0 where
@@ -127,11 +126,15 @@ module _ (p : Page) (within : Bounds p) (b : Bucket) (clean value : ℕ) where
   abbrev stepNo : ℕ → Step
   stepNo n = stepAt (headOf p) (ask n) (lookFor (live (p .readers)) (soughtOf (ask n))) (leb capacity (p .readers .len))
 
+  -- the table's words for it
   abbrev atCeiling : Bool
   atCeiling = eqb (numberAt (p .«ref_counts») (b .0)) ceiling
 
   abbrev isFull : Bool
   isFull = eqb (p .readers .len) capacity
+
+  abbrev reads : Phase → Bool
+  reads phase = lists (live (p .readers)) phase b
 
   abbrev Tabled : ℕ → Type 0
   Tabled n =
@@ -139,118 +142,114 @@ module _ (p : Page) (within : Bounds p) (b : Bucket) (clean value : ℕ) where
       ≡ tabled (flagLets n (p .flag)) (holderThere p (ask n)) (bucketWrong p n) (visitedWrong p n) (countOther p n)
       (among raising n && atCeiling) (among listing n && isFull)
 
+  -- the step's words: below the ceiling, the list is full, a bucket that is held, what was visited
+  abbrev under : Bool
+  under = ltb (numberAt (p .«ref_counts») (b .0)) ceiling
+
+  abbrev full : Bool
+  full = leb capacity (p .readers .len)
+
   abbrev exc-bucket : Bool
   exc-bucket = hasBucket (excBucket (p .«exc_state»))
 
   abbrev load-bucket : Bool
   load-bucket = hasBucket (loadingBucket (p .«loading_state»))
 
-  abbrev obtained : Reader
-  obtained = reader (Phase.Obtained value) b
+  abbrev visited : ℕ
+  visited = excVisited (p .«exc_state») .0
+
+  -- the two agree
+  at-ceiling : atCeiling ≡ not under
+  at-ceiling = limit-not-below (numberAt (p .«ref_counts») (b .0)) ceiling (within .few (b .0))
+
+  is-full : isFull ≡ full
+  is-full = limit-reached (p .readers .len) capacity (within .room)
+
+  finds : (phase : Phase) → isFound (findIn (live (p .readers)) (reader phase b)) ≡ reads phase
+  finds phase = found-from 0 (live (p .readers)) (reader phase b)
 
   tabled1 : Tabled 1
-  tabled1 = rw (available-lets (p .flag)) (premised-tabled (flagLets 1 (p .flag)) true false false false false false)
+  tabled1 = rw (available-lets (p .flag)) (alone (flagLets 1 (p .flag)) true)
 
   tabled2 : Tabled 2
-  tabled2 = premised-tabled true (not (noWriteback (p .«writeback_state»))) false false false false false
+  tabled2 = alone true (not (noWriteback (p .«writeback_state»)))
 
   tabled3 : Tabled 3
-  tabled3 = rw (claimable-lets (p .flag)) (premised-tabled (flagLets 3 (p .flag)) true false false false false false)
+  tabled3 = rw (claimable-lets (p .flag)) (alone (flagLets 3 (p .flag)) true)
 
   tabled4 : Tabled 4
   unfolding lookFor soughtOf
-  tabled4 =
-      rw (claimable-lets (p .flag), found-from 0 (live (p .readers)) obtained)
-      (premised-tabled (flagLets 4 (p .flag)) (lists (live (p .readers)) (Phase.Obtained value) b) false false false false false)
+  tabled4 = rw (claimable-lets (p .flag), finds (Phase.Obtained value)) (alone (flagLets 4 (p .flag)) (reads (Phase.Obtained value)))
 
   tabled5 : Tabled 5
-  tabled5 = premised-tabled true (isClaim (p .«exc_state»)) false false false false false
+  tabled5 = alone true (isClaim (p .«exc_state»))
 
   tabled6 : Tabled 6
-  tabled6 = rw (writeback-lets (p .flag)) (premised-tabled (flagLets 6 (p .flag)) (isAwait (p .«exc_state»)) false false false false false)
+  tabled6 = rw (writeback-lets (p .flag)) (alone (flagLets 6 (p .flag)) (isAwait (p .«exc_state»)))
 
   tabled7 : Tabled 7
   tabled7 =
-      let visited = excVisited (p .«exc_state») .0 in
-      let expects = eqb (numberAt (p .«ref_counts») visited) (refAt (excBucket (p .«exc_state»)) visited) in
-      rw (below-limit visited buckets (within .closed))
-      (simp Bool·not-not (simp Bool·not-not at (premised-tabled true (isPending (p .«exc_state»)) false (eqb visited buckets) (not expects) false false)))
+      let expected = eqb (numberAt (p .«ref_counts») visited) (refAt (excBucket (p .«exc_state»)) visited) in
+      rw (limit-not-below visited buckets (within .closed))
+      (premised-tabled true (isPending (p .«exc_state»)) true (ltb visited buckets) expected true false)
 
   tabled8 : Tabled 8
-  tabled8 =
-      let visited = excVisited (p .«exc_state») .0 in
-      simp Bool·not-not (simp Bool·not-not at (premised-tabled true (isPending (p .«exc_state»)) false (not (eqb visited buckets)) false false false))
+  tabled8 = premised-tabled true (isPending (p .«exc_state»)) true (eqb visited buckets) true true false
 
   tabled9 : Tabled 9
-  tabled9 =
-      rw (at-limit (p .readers .len) capacity (within .room))
-      (simp Bool·not-not (simp Bool·not-not at (premised-tabled true (isEditing (p .«exc_state»)) (not exc-bucket) false false false isFull)))
+  tabled9 = rw is-full (premised-tabled true (isEditing (p .«exc_state»)) exc-bucket true true true full)
 
   tabled10 : Tabled 10
-  tabled10 = simp Bool·not-not (simp Bool·not-not at (premised-tabled true (isEditing (p .«exc_state»)) (not exc-bucket) false false false false))
+  tabled10 = premised-tabled true (isEditing (p .«exc_state»)) exc-bucket true true true false
 
   tabled11 : Tabled 11
-  tabled11 = rw (unmapped-lets (p .flag)) (premised-tabled (flagLets 11 (p .flag)) true false false false false false)
+  tabled11 = rw (unmapped-lets (p .flag)) (alone (flagLets 11 (p .flag)) true)
 
   tabled12 : Tabled 12
-  tabled12 = rw (unmapped-lets (p .flag)) (premised-tabled (flagLets 12 (p .flag)) true false false false false false)
+  tabled12 = rw (unmapped-lets (p .flag)) (alone (flagLets 12 (p .flag)) true)
 
   tabled13 : Tabled 13
-  tabled13 =
-      rw (below-limit (numberAt (p .«ref_counts») (b .0)) ceiling (within .few (b .0)))
-      (premised-tabled true (isWaiting (p .«loading_state»)) false false false atCeiling false)
+  tabled13 = rw at-ceiling (premised-tabled true (isWaiting (p .«loading_state»)) true true true under false)
 
   tabled14 : Tabled 14
-  tabled14 = premised-tabled true (isCounted (p .«loading_state»)) false false false false false
+  tabled14 = alone true (isCounted (p .«loading_state»))
 
   tabled15 : Tabled 15
-  tabled15 = premised-tabled true (isWaiting (p .«loading_state»)) false false false false false
+  tabled15 = alone true (isWaiting (p .«loading_state»))
 
   tabled16 : Tabled 16
-  tabled16 =
-      rw (at-limit (p .readers .len) capacity (within .room))
-      (simp Bool·not-not (simp Bool·not-not at (premised-tabled true (isLoaded (p .«loading_state»)) (not load-bucket) false false false isFull)))
+  tabled16 = rw is-full (premised-tabled true (isLoaded (p .«loading_state»)) load-bucket true true true full)
 
   tabled17 : Tabled 17
-  tabled17 = simp Bool·not-not (simp Bool·not-not at (premised-tabled true (isLoaded (p .«loading_state»)) (not load-bucket) false false false false))
+  tabled17 = premised-tabled true (isLoaded (p .«loading_state»)) load-bucket true true true false
 
   tabled18 : Tabled 18
   tabled18 =
-      rw (below-limit (numberAt (p .«ref_counts») (b .0)) ceiling (within .few (b .0)))
-      (premised-tabled true (isEditing (p .«exc_state»)) exc-bucket false false atCeiling false)
+      let line = premised-tabled true (isEditing (p .«exc_state»)) (not exc-bucket) true true under false in
+      rw at-ceiling (simp Bool·not-not (simp Bool·not-not at line))
 
   tabled19 : Tabled 19
-  tabled19 =
-      rw (below-limit (numberAt (p .«ref_counts») (b .0)) ceiling (within .few (b .0)), at-limit (p .readers .len) capacity (within .room))
-      (premised-tabled true true false false false atCeiling isFull)
-
-  -- 20 to 22: the holder alone
-  tabled-holder : (phase : Phase) → numbered ((Refusal.NoHolder, isFound (findIn (live (p .readers)) (reader phase b))) ∷ []) ≡ tabled true (lists (live (p .readers)) phase b) false false false false false
-  tabled-holder phase = rw (found-from 0 (live (p .readers)) (reader phase b)) (premised-tabled true (lists (live (p .readers)) phase b) false false false false false)
+  tabled19 = rw (at-ceiling, is-full) (premised-tabled true true true true true under full)
 
   tabled20 : Tabled 20
   unfolding lookFor soughtOf
-  tabled20 = tabled-holder Phase.Pending
+  tabled20 = rw (finds Phase.Pending) (alone true (reads Phase.Pending))
 
   tabled21 : Tabled 21
   unfolding lookFor soughtOf
-  tabled21 = tabled-holder Phase.Pending2
+  tabled21 = rw (finds Phase.Pending2) (alone true (reads Phase.Pending2))
 
   tabled22 : Tabled 22
   unfolding lookFor soughtOf
-  tabled22 = tabled-holder (Phase.Obtained value)
+  tabled22 = rw (finds (Phase.Obtained value)) (alone true (reads (Phase.Obtained value)))
 
   tabled23 : Tabled 23
   unfolding lookFor soughtOf
-  tabled23 =
-      rw (open-lets (p .flag), found-from 0 (live (p .readers)) (reader Phase.Pending b))
-      (premised-tabled (flagLets 23 (p .flag)) (lists (live (p .readers)) Phase.Pending b) false false false false false)
+  tabled23 = rw (open-lets (p .flag), finds Phase.Pending) (alone (flagLets 23 (p .flag)) (reads Phase.Pending))
 
   tabled24 : Tabled 24
   unfolding lookFor soughtOf
-  tabled24 =
-      rw (loading-lets (p .flag), found-from 0 (live (p .readers)) (reader Phase.Pending2 b))
-      (premised-tabled (flagLets 24 (p .flag)) (lists (live (p .readers)) Phase.Pending2 b) false false false false false)
+  tabled24 = rw (loading-lets (p .flag), finds Phase.Pending2) (alone (flagLets 24 (p .flag)) (reads Phase.Pending2))
 
   -- no step has number 0
   entries : Below pastLast (λ n. T (isStep n) → Tabled n)
