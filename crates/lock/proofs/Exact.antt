@@ -39,7 +39,8 @@ pub exact-parts : (h : Head) (l : List Reader) (q : Request) → Sound h l → j
     → Accepts (decidedOn h l q) l h′ l′ out ↔ (Moves (stateWith h l) q (stateWith h′ l′) out × Room (stateWith h l) q)
 exact-parts h l q s ok h′ l′ out = (
   (λ a.
-      subst (λ (post : RwLock). Moves (stateWith h l) q post out × Room (stateWith h l) q) (λ i. stateWith (a .head i) (a .list i))
+      subst (λ (post : RwLock). Moves (stateWith h l) q post out × Room (stateWith h l) q)
+      (λ i. stateWith (a .head i) (a .list i))
       (told h l q s (formed q ok) .fits out (a .answer))),
   (λ m. takes h l q h′ l′ out s (m .0) (m .1)),
 )

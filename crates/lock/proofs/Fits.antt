@@ -237,7 +237,7 @@ module _ (h : Head) (l : List Reader) (q : Request) where
         let below = formed .bucket in
         Moves.shared-inc-count here step below refl (there b (here + 1) below) (others b (here + 1) refl) refl (search)
 
-    -- 20 to 22: the reader x that is found, and the count at its bucket; `line` is the constructor
+    -- 20 to 22: the reader that is found, and the count at its bucket; `line` is the constructor, its step given
     leaves : (phase : Phase) → Room (stateWith h l) q
         → ((post : RwLock) (out : Storage) → Leaving (reader phase (q .bucket)) post out)
         → Fits (decided h (sharedDecCount h q (findIn l (reader phase (q .bucket)))))
@@ -250,11 +250,13 @@ module _ (h : Head) (l : List Reader) (q : Request) where
 
     fits20 : q .step ≡ 20 → Fits (decided h (sharedDecCount h q (findIn l (pending (q .bucket)))))
     fits20 step =
-        leaves Phase.Pending (roomy 20 step absurd absurd) λ post out n before after. Moves.shared-dec-count-pending n before after step
+        leaves Phase.Pending (roomy 20 step absurd absurd)
+        λ post out n before after. Moves.shared-dec-count-pending n before after step
 
     fits21 : q .step ≡ 21 → Fits (decided h (sharedDecCount h q (findIn l (pending2 (q .bucket)))))
     fits21 step =
-        leaves Phase.Pending2 (roomy 21 step absurd absurd) λ post out n before after. Moves.shared-dec-count-pending2 n before after step
+        leaves Phase.Pending2 (roomy 21 step absurd absurd)
+        λ post out n before after. Moves.shared-dec-count-pending2 n before after step
 
     fits22 : q .step ≡ 22 → Fits (decided h (sharedDecCount h q (findIn l (obtained (q .bucket) (q .value)))))
     fits22 step =

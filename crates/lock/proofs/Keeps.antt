@@ -77,19 +77,23 @@ abbrev pub outcomeOf : List Reader → Decision → Outcome
 outcomeOf l d = record { answer = d .answer; page = pageOf (d .head) (listed (edited (d .edit) l)) }
 
 module _ (q : Request) (fit : judged q ≡ Verdict.Passed) where
-  on-listed : (h : Head) (l : List Reader) → Sound h l → stepped (pageOf h (listed l)) q Verdict.Passed ≡ outcomeOf l (decidedOn h l q)
+  on-listed : (h : Head) (l : List Reader) → Sound h l
+      → stepped (pageOf h (listed l)) q Verdict.Passed ≡ outcomeOf l (decidedOn h l q)
   on-listed h l s =
       let d = decidedOn h l q in
       let k = keeps h l q (formed q fit .bucket) s in
       rw (live-listed l)
-      (ap (λ (rs : Readers). record { answer = d .answer; page = pageOf (d .head) rs }) (edited-listed (d .edit) l (s .room) (k .sound .room)))
+      (ap (λ (rs : Readers). record { answer = d .answer; page = pageOf (d .head) rs })
+      (edited-listed (d .edit) l (s .room) (k .sound .room)))
 
-  pub step-listed : (p : Page) → T (soundOf p) → stepOf p q ≡ outcomeOf (live (p .readers)) (decidedOn (headOf p) (live (p .readers)) q)
+  pub step-listed : (p : Page) → T (soundOf p)
+      → stepOf p q ≡ outcomeOf (live (p .readers)) (decidedOn (headOf p) (live (p .readers)) q)
   unfolding stepOf
   step-listed p t =
       let f = facts p t in
       rw (to-true (soundOf p) t, fit)
-      (ap (λ (rs : Readers). stepped (pageOf (headOf p) rs) q Verdict.Passed) (f .neat) ∙ on-listed (headOf p) (live (p .readers)) (f .parts))
+      (ap (λ (rs : Readers). stepped (pageOf (headOf p) rs) q Verdict.Passed) (f .neat)
+      ∙ on-listed (headOf p) (live (p .readers)) (f .parts))
 
 -- ---- over pages
 -- an unsound page is refused
@@ -98,7 +102,8 @@ unfolding stepOf
 unsound-stays p q e = rw e
 
 -- so is a request that is not well formed
-pub unfit-stays : (p : Page) (q : Request) (why : Refusal) → T (soundOf p) → judged q ≡ Verdict.Failed why → stepOf p q ≡ refusedBy p why
+pub unfit-stays : (p : Page) (q : Request) (why : Refusal) → T (soundOf p) → judged q ≡ Verdict.Failed why
+    → stepOf p q ≡ refusedBy p why
 unfolding stepOf
 unfit-stays p q why t e = rw (to-true (soundOf p) t, e)
 

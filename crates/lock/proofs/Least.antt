@@ -73,7 +73,8 @@ module _ (p : Page) (q : Request) where
 
   decided-no : Bounds p → T (isStep (q .step)) → decidedNo ≡ tabledNo
   decided-no within t =
-      decided-number (headOf p) q (lookFor (live (p .readers)) (soughtOf q)) (leb capacity (p .readers .len)) ∙ tabled-at p within q t
+      decided-number (headOf p) q (lookFor (live (p .readers)) (soughtOf q)) (leb capacity (p .readers .len))
+      ∙ tabled-at p within q t
 
   sound-number : Bounds p → soundOf p ≡ true → answerNumber (stepOf p q .answer) ≡ firstBroken 1 (map not (applying p q))
   unfolding stepOf

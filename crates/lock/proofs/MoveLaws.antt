@@ -80,7 +80,8 @@ Expects m n c = ((some (record { 0 = n }) ≡ m) × (c ≡ 1)) ⊎ ((some (recor
 pub is-expected : (m : MaybeBucket) (n c : ℕ) → Expects m n c → refAt m n ≡ c
 is-expected m n c (inl p) = rw (← p .0, eq-eqb n n refl) (sym (p .1))
 is-expected MaybeBucket.None n c (inr p) = sym (p .1)
-is-expected (MaybeBucket.At b) n c (inr p) = rw (ne-eqb (b .0) n (λ e. p .0 (ap (λ (x : ℕ). some (record { 0 = x })) (sym e)))) (sym (p .1))
+is-expected (MaybeBucket.At b) n c (inr p) =
+    rw (ne-eqb (b .0) n (λ e. p .0 (ap (λ (x : ℕ). some (record { 0 = x })) (sym e)))) (sym (p .1))
 
 pub expected : (m : MaybeBucket) (n : ℕ) → Expects m n (refAt m n)
 expected MaybeBucket.None n = inr ((λ e. let z : _≡_ {A = ℕ} 0 1 = cc in omega arith), refl)

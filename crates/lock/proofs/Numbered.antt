@@ -123,5 +123,6 @@ premised-tabled true true true true true false r = refl
 premised-tabled true true true true true true r = refl
 
 -- where a step asks for a flag and a holder alone
-pub alone : (flag holder : Bool) → premised flag holder true true true true false ≡ tabled flag holder false false false false false
+pub alone : (flag holder : Bool)
+    → premised flag holder true true true true false ≡ tabled flag holder false false false false false
 alone flag holder = premised-tabled flag holder true true true true false

@@ -54,7 +54,8 @@ formed q e =
       clean = clean-below (takesClean n) (fields .1);
     }
   where
-    bucket-below : (takes : Bool) → T (takes || eqb (q .bucket .0) 0) → T (not takes || ltb (q .bucket .0) buckets) → q .bucket .0 < buckets
+    bucket-below : (takes : Bool) → T (takes || eqb (q .bucket .0) 0) → T (not takes || ltb (q .bucket .0) buckets)
+        → q .bucket .0 < buckets
     bucket-below true s t = ltb→lt (q .bucket .0) buckets t
     bucket-below false s t = omega (arith, eqb→eq (q .bucket .0) 0 s)
 

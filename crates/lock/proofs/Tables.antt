@@ -86,7 +86,8 @@ found-from i (r ∷ rs) x = go (sameReader r x) (found-from (i + 1) rs x)
 -- ---- flags
 by-flag : (P : Flag → Type 0)
     → P Flag.Unmapped → P Flag.Loading → P Flag.LoadingExcLock → P Flag.Available → P Flag.Claimed → P Flag.Writeback
-    → P Flag.WritebackAndClaimed → P Flag.WritebackAndPendingExcLock → P Flag.PendingExcLock → P Flag.ExcLockClean → P Flag.ExcLockDirty
+    → P Flag.WritebackAndClaimed → P Flag.WritebackAndPendingExcLock → P Flag.PendingExcLock → P Flag.ExcLockClean
+    → P Flag.ExcLockDirty
     → (f : Flag) → P f
 by-flag P a b c d e f g h i j k Flag.Unmapped = a
 by-flag P a b c d e f g h i j k Flag.Loading = b
@@ -179,7 +180,9 @@ module _ (p : Page) (within : Bounds p) (b : Bucket) (clean value : ℕ) where
 
   tabled4 : Tabled 4
   unfolding lookFor soughtOf
-  tabled4 = rw (claimable-lets (p .flag), finds (Phase.Obtained value)) (alone (flagLets 4 (p .flag)) (reads (Phase.Obtained value)))
+  tabled4 =
+      let x = Phase.Obtained value in
+      rw (claimable-lets (p .flag), finds x) (alone (flagLets 4 (p .flag)) (reads x))
 
   tabled5 : Tabled 5
   tabled5 = alone true (isClaim (p .«exc_state»))
@@ -241,7 +244,7 @@ module _ (p : Page) (within : Bounds p) (b : Bucket) (clean value : ℕ) where
 
   tabled22 : Tabled 22
   unfolding lookFor soughtOf
-  tabled22 = rw (finds (Phase.Obtained value)) (alone true (reads (Phase.Obtained value)))
+  tabled22 = let x = Phase.Obtained value in rw (finds x) (alone true (reads x))
 
   tabled23 : Tabled 23
   unfolding lookFor soughtOf

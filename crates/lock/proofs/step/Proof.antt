@@ -24,11 +24,19 @@ step-spec =
     let read = c .before .before .before in
     let tested = read .before in
     let sound = tested .before .is-sound in
-    simp
-    (c .take-step .ensures, c .before .enum-told .given .1, ← read .judge .ensures, granted (sound .ensures) (tested .if1 .left)))
+    simp (
+      c .take-step .ensures,
+      c .before .enum-told .given .1,
+      ← read .judge .ensures,
+      granted (sound .ensures) (tested .if1 .left),
+    ))
     (λ c.
     let read = c .before .before .before .before in
     let tested = read .before in
     let sound = tested .before .is-sound in
-    simp
-    (c .refuse2 .ensures, c .before .before .verdict .given .1, ← read .judge .ensures, granted (sound .ensures) (tested .if1 .left))))
+    simp (
+      c .refuse2 .ensures,
+      c .before .before .verdict .given .1,
+      ← read .judge .ensures,
+      granted (sound .ensures) (tested .if1 .left),
+    )))
