@@ -1,7 +1,7 @@
 -- The step over pages: a sound page stays sound whatever the request is (`step-keeps`), a refusal leaves the page as it was,
--- sound or not (`refused-keeps-all`), and an unsound page is refused (`unsound-stays`). On a sound page the step is the
--- decision on its head and its list (`step-listed`), since an edit of the array is the edit of the list (`edited-listed`).
--- Assumes nothing.
+-- sound or not (`refused-keeps-all`); an unsound page is refused (`unsound-stays`), and so is a request that is not well
+-- formed (`unfit-stays`). On a sound page the step is the decision on its head and its list (`step-listed`), since an edit of
+-- the array is the edit of the list (`edited-listed`). Assumes nothing.
 use Prim.Native.Nat.{ℕ, _+_, _≤_}
 use mathlib.Core.Path.{_≡_, refl, ap, _∙_}
 use mathlib.Core.Bool.{Bool, true, false, cond}

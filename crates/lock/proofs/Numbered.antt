@@ -114,8 +114,7 @@ pub premised-tabled : (flag holder bucket visited count under full : Bool)
     → premised flag holder bucket visited count under full
     ≡ tabled flag holder (not bucket) (not visited) (not count) (not under) full
 premised-tabled false h b v c u r = refl
-premised-tabled true false b v c false r = refl
-premised-tabled true false b v c true r = refl
+premised-tabled true false b v c u r = refl
 premised-tabled true true false v c u r = refl
 premised-tabled true true true false c u r = refl
 premised-tabled true true true true false u r = refl

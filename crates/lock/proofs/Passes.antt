@@ -63,5 +63,6 @@ formed q e =
     clean-below true t = leb→le (q .clean) 1 t
     clean-below false t = omega (arith, leb→le (q .clean) 0 t)
 
+-- its bucket alone, for the crates above
 pub judged-bucket : (q : Request) → judged q ≡ Verdict.Passed → q .bucket .0 < buckets
 judged-bucket q e = formed q e .bucket

@@ -1,11 +1,11 @@
 -- Each step's premises are the numbers 5 to 11 of document 01's table (specs/Applies.antt), a line a step; `tabled-at` picks
--- the line of the step that a request names. A reader is found just if the table finds it listed (`found-from`), a flag's test
+-- the line of the step that a request names. A reader is found just if the table finds it listed (`found-listed`), a flag's test
 -- is the table's list of flags (`available-lets` and the like), and soundness keeps counts, visited number and length within
 -- their limits (`bounds`). Assumes nothing.
-use Prim.Native.Nat.{ℕ, _+_, _≤_}
-use mathlib.Core.Path.{_≡_, refl, ap}
-use mathlib.Core.Bool.{Bool, true, false, not, cond, _&&_, Bool·not-not}
-use mathlib.Core.List.{List, [], _∷_, map}
+use Prim.Native.Nat.{ℕ, _≤_}
+use mathlib.Core.Path.{_≡_, refl, sym, ap, _∙_}
+use mathlib.Core.Bool.{Bool, true, false, not, _&&_, Bool·not-not}
+use mathlib.Core.List.{List, map}
 use native.Mathlib.Omega.{arith}
 use lib.Dec.{T, eqb, ltb, leb, leb→le}
 use lib.ListN.{drop}
@@ -18,10 +18,9 @@ use Rattle.kinds.specs.declared.Phase.{Phase}
 use Rattle.kinds.specs.declared.Reader.{Reader}
 use Rattle.readers.specs.declared.Found.{Found}
 use Rattle.readers.specs.declared.Readers.{Readers}
-use Rattle.readers.specs.Lists.{every}
-use Rattle.readers.specs.Same.{sameReader}
-use Rattle.readers.specs.Listed.{live, findFrom, findIn}
-use Rattle.readers.proofs.Tests.{halves}
+use Rattle.readers.specs.Listed.{live, findIn}
+use Rattle.readers.proofs.Tests.{is-true, halves}
+use Rattle.readers.proofs.First.{absent, nowhere, find-none}
 use Rattle.page_record.specs.declared.Head.{Head}
 use Rattle.page_record.specs.declared.Page.{Page}
 use Rattle.page_record.specs.Holders.{hasBucket, isClaim, isAwait, isPending, isEditing, excBucket, excVisited, isWaiting, isCounted, isLoaded, loadingBucket, noWriteback, validBucket}
@@ -74,16 +73,15 @@ bounds p sound =
     }
 
 -- ---- a reader is found just if it is listed
-found-from : (i : ℕ) (l : List Reader) (x : Reader) → isFound (findFrom i l x) ≡ not (every (λ r. not (sameReader r x)) l)
-found-from i [] x = refl
-found-from i (r ∷ rs) x = go (sameReader r x) (found-from (i + 1) rs x)
+found-listed : (l : List Reader) (x : Reader) → isFound (findIn l x) ≡ not (absent x l)
+found-listed l x = go (absent x l) refl (findIn l x) refl
   where
-    go : (t : Bool) → isFound (findFrom (i + 1) rs x) ≡ not (every (λ r. not (sameReader r x)) rs)
-        → isFound (cond t (Found.At i) (findFrom (i + 1) rs x)) ≡ not (not t && every (λ r. not (sameReader r x)) rs)
-    go true e = refl
-    go false e = e
+    go : (t : Bool) → absent x l ≡ t → (o : Found) → findIn l x ≡ o → isFound o ≡ not t
+    go true a o e = ap isFound (sym e ∙ find-none x l (is-true a))
+    go false a Found.Nowhere e = absurd (rw a at (nowhere x l e))
+    go false a (Found.At i) e = refl
 
--- ---- flags
+-- ---- a flag's test is the table's list of flags
 by-flag : (P : Flag → Type 0)
     → P Flag.Unmapped → P Flag.Loading → P Flag.LoadingExcLock → P Flag.Available → P Flag.Claimed → P Flag.Writeback
     → P Flag.WritebackAndClaimed → P Flag.WritebackAndPendingExcLock → P Flag.PendingExcLock → P Flag.ExcLockClean
@@ -127,7 +125,7 @@ module _ (p : Page) (within : Bounds p) (b : Bucket) (clean value : ℕ) where
   abbrev stepNo : ℕ → Step
   stepNo n = stepAt (headOf p) (ask n) (lookFor (live (p .readers)) (soughtOf (ask n))) (leb capacity (p .readers .len))
 
-  -- the table's words for it
+  -- in the table's words
   abbrev atCeiling : Bool
   atCeiling = eqb (numberAt (p .«ref_counts») (b .0)) ceiling
 
@@ -143,7 +141,7 @@ module _ (p : Page) (within : Bounds p) (b : Bucket) (clean value : ℕ) where
       ≡ tabled (flagLets n (p .flag)) (holderThere p (ask n)) (bucketWrong p n) (visitedWrong p n) (countOther p n)
       (among raising n && atCeiling) (among listing n && isFull)
 
-  -- the step's words: below the ceiling, the list is full, a bucket that is held, what was visited
+  -- in the step's words: the count is below the ceiling, the list is full, the holder has a bucket, what it has visited
   abbrev under : Bool
   under = ltb (numberAt (p .«ref_counts») (b .0)) ceiling
 
@@ -167,7 +165,7 @@ module _ (p : Page) (within : Bounds p) (b : Bucket) (clean value : ℕ) where
   is-full = limit-reached (p .readers .len) capacity (within .room)
 
   finds : (phase : Phase) → isFound (findIn (live (p .readers)) (reader phase b)) ≡ reads phase
-  finds phase = found-from 0 (live (p .readers)) (reader phase b)
+  finds phase = found-listed (live (p .readers)) (reader phase b)
 
   tabled1 : Tabled 1
   tabled1 = rw (available-lets (p .flag)) (alone (flagLets 1 (p .flag)) true)
