@@ -1,7 +1,7 @@
 -- What is accepted, the source's transition allows, and the limits leave room for it (⇒). One law takes a step's list of
 -- premises apart (`ran`); then each step has its constructor, line by line, in the source's order. Soundness is used wherever
--- the source takes something for granted (MoveFacts), and for `as nat`: a reader that is listed, and a loader that has a
--- bucket, is counted. Assumes nothing.
+-- the source takes something for granted (page_record's Known, MoveFacts), and for `as nat`: a reader that is listed, and a
+-- loader that has a bucket, is counted. Assumes nothing.
 use Prim.Native.Nat.{ℕ, _+_, _-_, _≤_, _<_}
 use mathlib.Core.Path.{_≡_, refl, ap, _∙_}
 use mathlib.Core.Logic.{_≢_}
@@ -33,11 +33,10 @@ use Rattle.steps.specs.Premises.{Step, verdict, Passes, settled, decided}
 use Rattle.steps.specs.Setters.{withNumber}
 use Rattle.steps.specs.Steps.{reader, takeWriteback, releaseWriteback, bucketlessClaim, sharedToClaim, claimToPending, takeExcLockFinishWriteback, takeExcLockCheckRefCount, withdrawTakeExcLockFinish, depositDowngradeExcLock, depositDowngradeExcLockToClaim, withdrawAlloc, withdrawAllocNoRefcount, loadingIncCount, obtainLoading, obtainLoadingNoRefcount, depositLoadingToShared, depositLoadingToDone, excIncCount, sharedIncCount, sharedDecCount, sharedCheckExc, sharedCheckLoading}
 use Rattle.steps.specs.Decide.{unknown}
-use Rattle.lock.specs.Step.{edited, lookFor, decidedOn}
-use Rattle.lock.specs.Moves
-use Rattle.lock.specs.Words.{among, raising, listing}
-use Rattle.lock.specs.Moves.{RwLock, Field, stateWith, countOf, Elsewhere, Absent, Only, Room, answerOf, pending, pending2, obtained}
 use Rattle.steps.proofs.Verdicts.{passed}
+use Rattle.lock.specs.Step.{edited, lookFor, decidedOn}
+use Rattle.lock.specs.Words.{among, raising, listing}
+use Rattle.lock.specs.Moves.{Moves, RwLock, Field, stateWith, countOf, Elsewhere, Absent, Only, Room, answerOf, pending, pending2, obtained}
 use Rattle.lock.proofs.MoveLaws.{handed, is-handed, unrefused, stepNo, by-number, expected, Split, split}
 use Rattle.lock.proofs.MoveFlags.{releases, awaits, lock-flag, opened}
 use Rattle.lock.proofs.Pick.{_&_, pick}
@@ -68,7 +67,7 @@ module _ (h : Head) (l : List Reader) (q : Request) where
 
   -- the transition to this state allows this to be handed out
   abbrev Allows : Head → List Reader → Storage → Type 0
-  Allows h′ l′ out = Moves.Moves (stateWith h l) q (stateWith h′ l′) out
+  Allows h′ l′ out = Moves (stateWith h l) q (stateWith h′ l′) out
 
   -- if a decision is no refusal, the transition allows it, and there is room
   pub record Fits (d : Decision) : Type 0 where
@@ -92,7 +91,7 @@ module _ (h : Head) (l : List Reader) (q : Request) where
       (n : ℕ) (before after : List Reader) → q .bucket .0 < buckets → countOf (stateWith h l) (q .bucket) ≡ n
       → l ≡ before ++ x ∷ after → Absent x before → post .shared-state ≡ before ++ after → 1 ≤ n
       → countOf post (q .bucket) ≡ n - 1 → Elsewhere (stateWith h l) post (q .bucket)
-      → Only (Field.ref-counts ∷ Field.shared-state ∷ []) (stateWith h l) post out → Moves.Moves (stateWith h l) q post out
+      → Only (Field.ref-counts ∷ Field.shared-state ∷ []) (stateWith h l) post out → Moves (stateWith h l) q post out
 
   -- the limits of the step with this number
   roomy : (n : ℕ) → q .step ≡ n → (T (among raising n) → countOf (stateWith h l) (q .bucket) < ceiling)

@@ -29,8 +29,7 @@ use Rattle.steps.specs.Premises.{decided}
 use Rattle.steps.specs.Setters.{withNumber, raise, lower}
 use Rattle.steps.specs.Steps.{sharedDecCount}
 use Rattle.lock.specs.Step.{edited, lookFor, decidedOn}
-use Rattle.lock.specs.Moves
-use Rattle.lock.specs.Moves.{Field, stateWith, countOf, Elsewhere, Absent, Only, Room, answerOf, obtained, pending, pending2}
+use Rattle.lock.specs.Moves.{Moves, Field, stateWith, countOf, Elsewhere, Absent, Only, Room, answerOf, obtained, pending, pending2}
 use Rattle.lock.proofs.MoveLaws.{Accepts, stepNo, by-number, is-expected, find-first, is-set}
 use Rattle.lock.proofs.MoveFlags.{is-released, is-claimed, is-awaited, done, lock-flag, is-open, unloaded}
 use Rattle.lock.proofs.MoveFacts.{granted}
@@ -97,7 +96,7 @@ module _ (h : Head) (l : List Reader) (q : Request) (h′ : Head) (l′ : List R
       let counts = one-less (q .bucket) below elsewhere n was is in
       rw (remove, find-first x before after first) (took (search))
 
-  pub takes : Moves.Moves (stateWith h l) q (stateWith h′ l′) out → Room (stateWith h l) q → Accepts (decidedOn h l q) l h′ l′ out
+  pub takes : Moves (stateWith h l) q (stateWith h′ l′) out → Room (stateWith h l) q → Accepts (decidedOn h l q) l h′ l′ out
   unfolding lookFor
   takes (Moves.take-writeback value step require update bird add only) room =
       step-is 1 step (rw (require, bird) (took (search)))
