@@ -1,7 +1,7 @@
 -- What is accepted, the source's transition allows, and the limits leave room for it (⇒). One law takes a step's list of
 -- premises apart (`ran`); then each step has its constructor, line by line, in the source's order. Soundness is used wherever
--- the source takes something for granted (page_record's Known, MoveFacts), and for `as nat`: a reader that is listed, and a
--- loader that has a bucket, is counted. Assumes nothing.
+-- the source takes something for granted (Reach.antt, MoveFacts.antt), and for `as nat`: a reader that is listed, and a loader
+-- that has a bucket, is counted. Assumes nothing.
 use Prim.Native.Nat.{ℕ, _+_, _-_, _≤_, _<_}
 use mathlib.Core.Path.{_≡_, refl, ap, _∙_}
 use mathlib.Core.Logic.{_≢_}
@@ -25,7 +25,7 @@ use Rattle.page_record.specs.Pages.{numberAt}
 use Rattle.page_record.specs.References.{refAt}
 use Rattle.page_record.specs.Facts.{Sound}
 use Rattle.page_record.proofs.Shapes.{is-claim, is-await, is-loaded, is-held, has-bucket, is-pending, is-editing, is-waiting, is-counted, no-bucket}
-use Rattle.page_record.proofs.Known.{known, listed-counted, pending2-in}
+use Rattle.page_record.proofs.Known.{listed-counted}
 use Rattle.steps.specs.declared.Verdict.{Verdict}
 use Rattle.steps.specs.declared.Request.{Request}
 use Rattle.steps.specs.declared.Decision.{Decision}
@@ -43,6 +43,7 @@ use Rattle.lock.proofs.Pick.{_&_, pick}
 use Rattle.lock.proofs.Passes.{Formed}
 use Rattle.lock.proofs.Cells.{pastLast}
 use Rattle.lock.proofs.Counts.{set-there, set-others}
+use Rattle.lock.proofs.Reach.{release-flags, claim-flags, writeback-stored, claim-stored, read-stored, lock-withdraws, alloc-withdraws, alloc-no-refcount-withdraws}
 use Rattle.lock.proofs.MoveFacts.{Granted, granted}
 
 -- ---- a holder's own bucket, and step 6's clean
@@ -122,16 +123,16 @@ module _ (h : Head) (l : List Reader) (q : Request) where
     fits1 : q .step ≡ 1 → Fits (decided h (takeWriteback h))
     fits1 step = ran (takeWriteback h) (λ _. roomy 1 step absurd absurd) λ p out o.
         let k = given .available (p .0) in
-        Moves.take-writeback (valueOf (h .storage)) step (k .0) refl (known s .available-in (p .0)) (k .1, refl) (search)
+        Moves.take-writeback (valueOf (h .storage)) step (k .0) refl (writeback-stored h l s p) (k .1, refl) (search)
 
     fits2 : q .step ≡ 2 → Fits (decided h (releaseWriteback h))
     fits2 step = ran (releaseWriteback h) (λ _. roomy 2 step absurd absurd) λ p out o.
-        Moves.release-writeback _ step (is-held _ (p .0), refl) (releases (h .flag) (known s .writes (p .0))) (search)
+        Moves.release-writeback _ step (is-held _ (p .0), refl) (releases (h .flag) (release-flags h l s p)) (search)
 
     fits3 : q .step ≡ 3 → Fits (decided h (bucketlessClaim h))
     fits3 step = ran (bucketlessClaim h) (λ _. roomy 3 step absurd absurd) λ p out o.
         let k = given .claims (p .0) in
-        Moves.bucketless-claim (valueOf (h .storage)) step (k .1) (known s .claimable-in (p .0)) (k .0, refl) (search)
+        Moves.bucketless-claim (valueOf (h .storage)) step (k .1) (claim-stored h l s p) (k .0, refl) (search)
 
     fits4 : q .step ≡ 4 → Fits (decided h (sharedToClaim h q (findIn l (obtained (q .bucket) (q .value)))))
     fits4 step =
@@ -144,7 +145,7 @@ module _ (h : Head) (l : List Reader) (q : Request) where
 
     fits5 : q .step ≡ 5 → Fits (decided h (claimToPending h))
     fits5 step = ran (claimToPending h) (λ _. roomy 5 step absurd absurd) λ p out o.
-        Moves.claim-to-pending _ _ step (is-claim _ (p .0)) refl (awaits (h .flag) (known s .claims (p .0))) (search)
+        Moves.claim-to-pending _ _ step (is-claim _ (p .0)) refl (awaits (h .flag) (claim-flags h l s p)) (search)
 
     fits6 : q .step ≡ 6 → Fits (decided h (takeExcLockFinishWriteback h q))
     fits6 step = ran (takeExcLockFinishWriteback h q) (λ _. roomy 6 step absurd absurd) λ p out o.
@@ -165,7 +166,7 @@ module _ (h : Head) (l : List Reader) (q : Request) where
     fits8 step = ran (withdrawTakeExcLockFinish h) (λ _. roomy 8 step absurd absurd) λ p out o.
         let e = h .«exc_state» in
         Moves.withdraw-take-exc-lock-finish _ _ _ _ step (is-pending e (p .0)) (eqb→eq (excVisited e .0) buckets (p .1 .0)) refl
-        (known s .pending-in (p .0), refl, o) (search)
+        (lock-withdraws h l s p, refl, o) (search)
 
     fits9 : q .step ≡ 9 → Fits (decided h (depositDowngradeExcLock h q full))
     fits9 step =
@@ -181,12 +182,12 @@ module _ (h : Head) (l : List Reader) (q : Request) where
     fits11 : q .step ≡ 11 → Fits (decided h (withdrawAlloc h))
     fits11 step = ran (withdrawAlloc h) (λ _. roomy 11 step absurd absurd) λ p out o.
         let k = given .unmapped (p .0) in
-        Moves.withdraw-alloc _ step (k .0) refl (k .1, refl) (known s .unmapped-in (p .0), refl, o) (search)
+        Moves.withdraw-alloc _ step (k .0) refl (k .1, refl) (alloc-withdraws h l s p, refl, o) (search)
 
     fits12 : q .step ≡ 12 → Fits (decided h (withdrawAllocNoRefcount h))
     fits12 step = ran (withdrawAllocNoRefcount h) (λ _. roomy 12 step absurd absurd) λ p out o.
         let k = given .unmapped (p .0) in
-        Moves.withdraw-alloc-no-refcount _ step (k .0) refl (k .1, refl) (known s .unmapped-in (p .0), refl, o) (search)
+        Moves.withdraw-alloc-no-refcount _ step (k .0) refl (k .1, refl) (alloc-no-refcount-withdraws h l s p, refl, o) (search)
 
     fits13 : q .step ≡ 13 → Fits (decided h (loadingIncCount h q))
     fits13 step = ran (loadingIncCount h q) (λ p. roomy 13 step (λ _. ltb→lt here ceiling (p .1 .0)) absurd) λ p out o.
@@ -272,9 +273,8 @@ module _ (h : Head) (l : List Reader) (q : Request) where
     fits24 step = ran (sharedCheckLoading h q (findIn l (pending2 (q .bucket)))) (λ _. roomy 24 step absurd absurd) λ p out o.
         let v = valueOf (h .storage) in
         let at = split l (pending2 (q .bucket)) (p .1 .0) in
-        let stored = pending2-in s _ (at .inside) (ap (λ (r : Reader). r .phase) (at .equal)) (p .0) in
         Moves.shared-check-loading v (at .before) (at .after) step (formed .bucket) (λ f. rw f at (p .0)) (at .whole) (at .first)
-        stored (at .put (obtained (q .bucket) v)) (search)
+        (read-stored h l s q p) (at .put (obtained (q .bucket) v)) (search)
 
     -- all of them, by number; no step has number 0
     pub told : Fits (decidedOn h l q)

@@ -1,6 +1,6 @@
--- What the source takes for granted of a head, and soundness shows, beyond what page_record has (Known.antt: that `get_Some_0`
--- finds a value, that no arm `assert false` is reached): that an `add` finds its place free and a `deposit` storage out, and
--- which flag a step's test lets through. Read off the twelve shapes (`granted`), for the ⇒ half. Assumes nothing.
+-- What the source takes for granted of a head and soundness shows, beside the values and arms of Reach.antt: that an `add` finds
+-- its place free and a `deposit` storage out, and which flag a step's test lets through. Read off the twelve shapes
+-- (`granted`), for the ⇒ half. Assumes nothing.
 use mathlib.Core.Path.{_≡_}
 use mathlib.Core.Logic.{inl, inr}
 use mathlib.Core.Bool.{true, false}
