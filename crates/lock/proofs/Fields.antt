@@ -34,33 +34,33 @@ pub step-known : (q : Request) → isStep (q .step) ≡ not (applies2 q)
 step-known q = known (q .step)
 
 -- ---- 3 and 4
--- what is asked of the fields, for any fields that are taken
-module _ (b c v : ℕ) where
-  clean-fits : (taken : Bool) → leb c (cond taken 1 0) ≡ not (cond taken (ltb 1 c) (not (eqb c 0)))
-  clean-fits true = leb-ltb c 1
-  clean-fits false = leb-zero c ∙ sym (Bool·not-not (eqb c 0))
+-- tests by parts, and each part denied
+either : (x y : Bool) → (x || y) ≡ not (not x && not y)
+either true y = refl
+either false true = refl
+either false false = refl
 
-  either : (taken zeroed : Bool) → (taken || zeroed) ≡ not (not taken && not zeroed)
-  either true z = refl
-  either false true = refl
-  either false false = refl
+unless : (x y : Bool) → (not x || y) ≡ not (x && not y)
+unless true y = sym (Bool·not-not y)
+unless false y = refl
 
-  three : (x y z : Bool) → (not x && not y && not z) ≡ not (x || y || z)
-  three true y z = refl
-  three false true z = refl
-  three false false true = refl
-  three false false false = refl
+three : (x y z : Bool) → (not x && not y && not z) ≡ not (x || y || z)
+three true y z = refl
+three false true z = refl
+three false false true = refl
+three false false false = refl
 
-  fields : (tb tc tv : Bool)
-      → ((tb || eqb b 0) && leb c (cond tc 1 0) && (tv || eqb v 0))
-      ≡ not ((not tb && not (eqb b 0)) || cond tc (ltb 1 c) (not (eqb c 0)) || (not tv && not (eqb v 0)))
-  fields tb tc tv =
-      rw (either tb (eqb b 0), clean-fits tc, either tv (eqb v 0))
-      (three (not tb && not (eqb b 0)) (cond tc (ltb 1 c) (not (eqb c 0))) (not tv && not (eqb v 0)))
+clean-fits : (c : ℕ) (taken : Bool) → leb c (cond taken 1 0) ≡ not (cond taken (ltb 1 c) (not (eqb c 0)))
+clean-fits c true = leb-ltb c 1
+clean-fits c false = leb-zero c ∙ sym (Bool·not-not (eqb c 0))
 
-  in-range : (tb : Bool) → (not tb || ltb b buckets) ≡ not (tb && not (ltb b buckets))
-  in-range true = sym (Bool·not-not (ltb b buckets))
-  in-range false = refl
+-- 3, for any fields that are taken
+fields : (b c v : ℕ) (tb tc tv : Bool)
+    → ((tb || eqb b 0) && leb c (cond tc 1 0) && (tv || eqb v 0))
+    ≡ not ((not tb && not (eqb b 0)) || cond tc (ltb 1 c) (not (eqb c 0)) || (not tv && not (eqb v 0)))
+fields b c v tb tc tv =
+    rw (either tb (eqb b 0), clean-fits c tc, either tv (eqb v 0))
+    (three (not tb && not (eqb b 0)) (cond tc (ltb 1 c) (not (eqb c 0))) (not tv && not (eqb v 0)))
 
 pub fields-fit : (q : Request) → q .step < pastLast → fieldsFit q ≡ not (applies3 q)
 fields-fit q h =
@@ -69,4 +69,4 @@ fields-fit q h =
 
 pub bucket-fits : (q : Request) → q .step < pastLast → bucketFits q ≡ not (applies4 q)
 bucket-fits q h =
-    rw (agrees takesBucket bucketTaken tt (q .step) h) (in-range (q .bucket .0) (q .clean) (q .value) (bucketTaken (q .step)))
+    rw (agrees takesBucket bucketTaken tt (q .step) h) (unless (bucketTaken (q .step)) (ltb (q .bucket .0) buckets))

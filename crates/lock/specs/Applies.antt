@@ -1,6 +1,6 @@
 -- When each of document 01's numbers 1 to 11 applies to a request on a page, by its table of replies and its table of steps,
--- in words of their own: no premise list and no order stands here. The answer is the lowest number that applies
--- (proofs/Least.antt), and none is given otherwise.
+-- in words of their own: no premise list and no order stands here. The answer is the lowest number that applies, and none is
+-- given otherwise (`least-number`, `number-first` and `number-none` in proofs/Least.antt).
 use Prim.Native.Nat.{ℕ}
 use mathlib.Core.Bool.{Bool, true, false, not, cond, _&&_, _||_}
 use mathlib.Core.List.{List, [], _∷_, map}
