@@ -1,8 +1,8 @@
 -- Acceptance is exactly the source's transition. On a head and a list of readers that are sound, a request that is well formed
 -- is accepted just if `Moves` allows it and the limits leave room, with that next state and that value handed out
 -- (`exact-parts`). Over pages this holds with no premise (`exact`): what is asked of the page and of the request is part of
--- what acceptance is. So on a sound page, where the limits leave room, `Moves` allows a well-formed request at most one next
--- state and one value handed out (`no-second-move`). Assumes nothing.
+-- what acceptance is. And on a sound page, where the limits leave room, `Moves` allows a request at most one next state and
+-- one value handed out (`no-second-move`). Assumes nothing.
 use mathlib.Core.Path.{_≡_, refl, sym, ap, _∙_, subst}
 use mathlib.Core.Logic.{_↔_}
 use mathlib.Core.Bool.{Bool, true, false}
@@ -109,7 +109,7 @@ module _ (p p′ : Page) (q : Request) (out : Storage) where
           let m = exact-parts (headOf p) l q s (a .well-formed) (headOf p′) (live (p′ .readers)) out .1 (a .moves, a .room) in
           step-listed q (a .well-formed) p (a .sound) ∙ of-parts (decidedOn (headOf p) l q) l m (a .neat)
 
--- ---- no second outcome, where there is a first that the limits leave room for
+-- ---- no second outcome, where the limits leave room
 -- a state's head: with the state's list of readers it makes up the state
 abbrev headIn : RwLock → Head
 headIn r = record {
@@ -121,15 +121,15 @@ headIn r = record {
   «writeback_state» = r .writeback-state;
 }
 
--- two moves of one well-formed request on one sound page, with room: they agree in state and in what is handed out
-pub no-second-move : (p : Page) (q : Request) → T (soundOf p) → judged q ≡ Verdict.Passed → Room (stateOf p) q
+-- two moves of one request on one sound page agree in the state after and in what is handed out
+pub no-second-move : (p : Page) (q : Request) → T (soundOf p) → Room (stateOf p) q
     → (post post″ : RwLock) (out out″ : Storage) → Moves (stateOf p) q post out → Moves (stateOf p) q post″ out″
     → (post ≡ post″) × (out ≡ out″)
-no-second-move p q t ok room post post″ out out″ m n =
+no-second-move p q t room post post″ out out″ m n =
     let l = live (p .readers) in
     let s = facts p t .parts in
-    let a = exact-parts (headOf p) l q s ok (headIn post) (post .shared-state) out .1 (m, room) in
-    let b = exact-parts (headOf p) l q s ok (headIn post″) (post″ .shared-state) out″ .1 (n, room) in
+    let a = takes (headOf p) l q (headIn post) (post .shared-state) out s m room in
+    let b = takes (headOf p) l q (headIn post″) (post″ .shared-state) out″ s n room in
     let head = sym (a .head) ∙ b .head in
     let list = sym (a .list) ∙ b .list in
     ((λ i. stateWith (head i) (list i)), same-out out out″ (sym (a .answer) ∙ b .answer))
