@@ -23,7 +23,8 @@ use Rattle.lock.specs.declared.Outcome.{Outcome}
 use Rattle.lock.specs.Applies.{applies3}
 use Rattle.lock.specs.Step.{stepOf}
 use Rattle.lock.proofs.Keeps.{refused-keeps-all}
-use Rattle.lock.proofs.Least.{step-known, least-number}
+use Rattle.lock.proofs.Fields.{step-known}
+use Rattle.lock.proofs.Least.{least-number, number-first, number-none}
 use Rattle.wire.specs.declared.Reading.{Reading}
 use Rattle.wire.specs.Buffers.{answerFor}
 use Rattle.wire.specs.Bytes.{zerosAt, valueAt, blank, part}
@@ -41,7 +42,12 @@ use Rattle.demands.proofs.Kept.{run-keeps}
 
 -- ---- one request
 pub demand1 : (p : Page) (q : Request) → Demand1 p q
-demand1 p q = record { lowest = least-number p q; untouched = refused-keeps-all p q }
+demand1 p q = record {
+  lowest = least-number p q;
+  given = number-first p q;
+  accepted = number-none p q;
+  untouched = refused-keeps-all p q;
+}
 
 pub demand1-read : (l : List ℕ) → Demand1Read l
 unfolding readOf
@@ -104,7 +110,7 @@ module _ (p : Page) (l : List ℕ) (sound : soundOf p ≡ true) (sixteen : lengt
       go false z =
           ap (λ (r : Reading). answerNumber (onReading p r .answer)) (sym (read-marked l sixteen z))
           ∙ marked-number (isStep (q .step)) (fieldsFit q) (bucketFits q)
-          ∙ rw (step-known (q .step), sound, z, or-yes (applies3 q))
+          ∙ rw (step-known q, sound, z, or-yes (applies3 q))
 
 -- ---- a run
 answered : (p : Page) (requests : List ℕ) (v : Verdict) → ends p requests v .answer ≡ answerFor v

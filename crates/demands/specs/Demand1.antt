@@ -1,9 +1,10 @@
 -- Demand 1: any record, any request bytes, any buffer get an answer. A bad one is refused by number, the checks run in the
 -- written order, and a refusal changes nothing but its own answer line. That there is an answer needs no word: each public
 -- function is proved to end and its promise is an equation (proofs/NoSecond.antt).
-use Prim.Native.Nat.{ℕ, suc, _<_, _/_}
+use Prim.Native.Nat.{ℕ, suc, _<_, _≤_, _/_}
 use mathlib.Core.Path.{_≡_}
-use mathlib.Core.Bool.{Bool, not, _||_}
+use mathlib.Core.Logic.{_↔_}
+use mathlib.Core.Bool.{Bool, false, not, _||_}
 use mathlib.Core.List.{List, [], _∷_, map}
 use lib.ListN.{length, drop}
 use Rattle.kinds.specs.Limits.{recordSize}
@@ -15,7 +16,8 @@ use Rattle.steps.specs.declared.Request.{Request}
 use Rattle.steps.specs.Answers.{refusalNumber, answerNumber}
 use Rattle.steps.specs.Premises.{verdict}
 use Rattle.lock.specs.Step.{stepOf}
-use Rattle.lock.specs.Applies.{applies1, applies2, applies3, applies4, applies5, applies6, applies7, applies8, applies9, applies10, applies11, applying}
+use Rattle.lock.specs.Applies.{applies1, applies2, applies3, applies4, applies5, applies6, applies7, applies8, applies9, applies10, applies11, applying, applies}
+use Rattle.lock.proofs.Least.{Lowest as LowestNumber}
 use Rattle.wire.specs.declared.Reading.{Reading}
 use Rattle.wire.specs.Answers.{lineOf}
 use Rattle.wire.specs.Buffers.{answerFor}
@@ -30,6 +32,9 @@ use Rattle.replay.specs.Run.{recordAt, pageAt, runPremises, ranOf, answersOf}
 pub record Demand1 (p : Page) (q : Request) : Type 0 where
   -- the number is the first of the eleven that applies, 0 where none does
   pub lowest : answerNumber (stepOf p q .answer) ≡ firstBroken 1 (map not (applying p q))
+  -- number by number: n is given just if it applies and no lower one does, and 0 just if none applies
+  pub given : (n : ℕ) → 1 ≤ n → (answerNumber (stepOf p q .answer) ≡ n) ↔ LowestNumber p q n
+  pub accepted : (answerNumber (stepOf p q .answer) ≡ 0) ↔ ((n : ℕ) → applies n p q ≡ false)
   -- a refusal changes nothing
   pub untouched : (why : Refusal) → stepOf p q .answer ≡ Answer.Refused why → stepOf p q .page ≡ p
 

@@ -1,6 +1,7 @@
 -- How the table of steps by shapes is made and read. A cell says of one step that what it leaves is sound where its premises
 -- hold; where one fails nothing changes (`settle`). A row lists the steps that may be accepted with their cells, and that
--- every other step fails one of its premises is computed; `cell-of` then gives the cell of any number. Assumes nothing.
+-- every other step fails one of its premises is computed (`below`, `below-at`); `cell-of` then gives the cell of any number.
+-- Assumes nothing.
 use Prim.Native.Nat.{ℕ, zero, suc, _+_, _<_}
 use mathlib.Core.Path.{_≡_, refl, sym, subst}
 use mathlib.Core.Logic.{_≢_}
@@ -71,7 +72,7 @@ abbrev pub below : (ℕ → Bool) → ℕ → Bool
 below f zero = true
 below f (suc k) = f k && below f k
 
-below-at : (f : ℕ → Bool) (k n : ℕ) → T (below f k) → n < k → T (f n)
+pub below-at : (f : ℕ → Bool) (k n : ℕ) → T (below f k) → n < k → T (f n)
 below-at f zero n t h = absurd (omega arith)
 below-at f (suc k) n t h =
     let u = halves (f k) (below f k) t in

@@ -1,7 +1,8 @@
 -- Acceptance is exactly the source's transition. On a head and a list of readers that are sound, a request that is well formed
 -- is accepted just if `Moves` allows it and the limits leave room, with that next state and that value handed out
 -- (`exact-parts`). Over pages this holds with no premise (`exact`): what is asked of the page and of the request is part of
--- what acceptance is. So a request has no second outcome (`no-second-move`). Assumes nothing.
+-- what acceptance is. And on a sound page, where the limits leave room, `Moves` allows a request at most one next state and
+-- one value handed out (`no-second-move`). Assumes nothing.
 use mathlib.Core.Path.{_≡_, refl, sym, ap, _∙_, subst}
 use mathlib.Core.Logic.{_↔_}
 use mathlib.Core.Bool.{Bool, true, false}
@@ -26,8 +27,9 @@ use Rattle.steps.specs.Requests.{judged}
 use Rattle.lock.specs.declared.Outcome.{Outcome}
 use Rattle.lock.specs.Step.{edited, decidedOn, stepOf}
 use Rattle.lock.specs.Moves.{RwLock, stateWith, stateOf, Moves, Room, answerOf}
+use Rattle.lock.proofs.Passes.{formed}
 use Rattle.lock.proofs.Keeps.{outcomeOf, step-listed, unsound-stays, unfit-stays}
-use Rattle.lock.proofs.MoveLaws.{Accepts, same-out, unrefused, formed}
+use Rattle.lock.proofs.MoveLaws.{Accepts, same-out, unrefused}
 use Rattle.lock.proofs.Takes.{takes}
 use Rattle.lock.proofs.Fits.{told}
 
@@ -37,7 +39,8 @@ pub exact-parts : (h : Head) (l : List Reader) (q : Request) → Sound h l → j
     → Accepts (decidedOn h l q) l h′ l′ out ↔ (Moves (stateWith h l) q (stateWith h′ l′) out × Room (stateWith h l) q)
 exact-parts h l q s ok h′ l′ out = (
   (λ a.
-      subst (λ (post : RwLock). Moves (stateWith h l) q post out × Room (stateWith h l) q) (λ i. stateWith (a .head i) (a .list i))
+      subst (λ (post : RwLock). Moves (stateWith h l) q post out × Room (stateWith h l) q)
+      (λ i. stateWith (a .head i) (a .list i))
       (told h l q s (formed q ok) .fits out (a .answer))),
   (λ m. takes h l q h′ l′ out s (m .0) (m .1)),
 )
@@ -106,7 +109,7 @@ module _ (p p′ : Page) (q : Request) (out : Storage) where
           let m = exact-parts (headOf p) l q s (a .well-formed) (headOf p′) (live (p′ .readers)) out .1 (a .moves, a .room) in
           step-listed q (a .well-formed) p (a .sound) ∙ of-parts (decidedOn (headOf p) l q) l m (a .neat)
 
--- ---- no second outcome
+-- ---- no second outcome, where the limits leave room
 -- a state's head: with the state's list of readers it makes up the state
 abbrev headIn : RwLock → Head
 headIn r = record {
@@ -118,14 +121,15 @@ headIn r = record {
   «writeback_state» = r .writeback-state;
 }
 
-pub no-second-move : (p : Page) (q : Request) → T (soundOf p) → judged q ≡ Verdict.Passed → Room (stateOf p) q
+-- two moves of one request on one sound page agree in the state after and in what is handed out
+pub no-second-move : (p : Page) (q : Request) → T (soundOf p) → Room (stateOf p) q
     → (post post″ : RwLock) (out out″ : Storage) → Moves (stateOf p) q post out → Moves (stateOf p) q post″ out″
     → (post ≡ post″) × (out ≡ out″)
-no-second-move p q t ok room post post″ out out″ m n =
+no-second-move p q t room post post″ out out″ m n =
     let l = live (p .readers) in
     let s = facts p t .parts in
-    let a = exact-parts (headOf p) l q s ok (headIn post) (post .shared-state) out .1 (m, room) in
-    let b = exact-parts (headOf p) l q s ok (headIn post″) (post″ .shared-state) out″ .1 (n, room) in
+    let a = takes (headOf p) l q (headIn post) (post .shared-state) out s m room in
+    let b = takes (headOf p) l q (headIn post″) (post″ .shared-state) out″ s n room in
     let head = sym (a .head) ∙ b .head in
     let list = sym (a .list) ∙ b .list in
     ((λ i. stateWith (head i) (list i)), same-out out out″ (sym (a .answer) ∙ b .answer))

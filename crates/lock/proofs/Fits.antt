@@ -1,23 +1,22 @@
 -- What is accepted, the source's transition allows, and the limits leave room for it (⇒). One law takes a step's list of
 -- premises apart (`ran`); then each step has its constructor, line by line, in the source's order. Soundness is used wherever
--- the source takes something for granted (MoveFacts), and for `as nat`: a reader that is listed, and a loader that has a
--- bucket, is counted. Assumes nothing.
+-- the source takes something for granted (Reach.antt, MoveFacts.antt), and for `as nat`: a reader that is listed, and a loader
+-- that has a bucket, is counted. Assumes nothing.
 use Prim.Native.Nat.{ℕ, _+_, _-_, _≤_, _<_}
 use mathlib.Core.Path.{_≡_, refl, ap, _∙_}
 use mathlib.Core.Logic.{_≢_}
 use mathlib.Core.Bool.{Bool, true, false, cond}
-use mathlib.Core.List.{List}
+use mathlib.Core.List.{List, [], _∷_, _++_}
 use native.Mathlib.Omega.{arith}
 use lib.Dec.{T, eqb, leb, ltb→lt, nleb→lt, eqb→eq}
 use lib.ListN.{length, length-set}
 use borrow.Author.Tests.{eqb-true, eqb-false, eq-eqb}
 use Rattle.kinds.specs.Limits.{buckets, ceiling, capacity}
-use Rattle.kinds.specs.Flags.{lockFlag}
 use Rattle.kinds.specs.declared.Bucket.{Bucket}
 use Rattle.kinds.specs.declared.Count.{Count}
 use Rattle.kinds.specs.declared.MaybeBucket.{MaybeBucket}
-use Rattle.kinds.specs.declared.Flag.{Flag}
 use Rattle.kinds.specs.declared.Storage.{Storage}
+use Rattle.kinds.specs.declared.Phase.{Phase}
 use Rattle.kinds.specs.declared.Reader.{Reader}
 use Rattle.readers.specs.Listed.{findIn}
 use Rattle.page_record.specs.declared.Head.{Head}
@@ -26,22 +25,25 @@ use Rattle.page_record.specs.Pages.{numberAt}
 use Rattle.page_record.specs.References.{refAt}
 use Rattle.page_record.specs.Facts.{Sound}
 use Rattle.page_record.proofs.Shapes.{is-claim, is-await, is-loaded, is-held, has-bucket, is-pending, is-editing, is-waiting, is-counted, no-bucket}
-use Rattle.page_record.proofs.Known.{known, listed-counted, pending2-in}
+use Rattle.page_record.proofs.Known.{listed-counted}
 use Rattle.steps.specs.declared.Verdict.{Verdict}
 use Rattle.steps.specs.declared.Request.{Request}
 use Rattle.steps.specs.declared.Decision.{Decision}
 use Rattle.steps.specs.Premises.{Step, verdict, Passes, settled, decided}
 use Rattle.steps.specs.Setters.{withNumber}
-use Rattle.steps.specs.Steps.{takeWriteback, releaseWriteback, bucketlessClaim, sharedToClaim, claimToPending, takeExcLockFinishWriteback, takeExcLockCheckRefCount, withdrawTakeExcLockFinish, depositDowngradeExcLock, depositDowngradeExcLockToClaim, withdrawAlloc, withdrawAllocNoRefcount, loadingIncCount, obtainLoading, obtainLoadingNoRefcount, depositLoadingToShared, depositLoadingToDone, excIncCount, sharedIncCount, sharedDecCount, sharedCheckExc, sharedCheckLoading}
+use Rattle.steps.specs.Steps.{reader, takeWriteback, releaseWriteback, bucketlessClaim, sharedToClaim, claimToPending, takeExcLockFinishWriteback, takeExcLockCheckRefCount, withdrawTakeExcLockFinish, depositDowngradeExcLock, depositDowngradeExcLockToClaim, withdrawAlloc, withdrawAllocNoRefcount, loadingIncCount, obtainLoading, obtainLoadingNoRefcount, depositLoadingToShared, depositLoadingToDone, excIncCount, sharedIncCount, sharedDecCount, sharedCheckExc, sharedCheckLoading}
 use Rattle.steps.specs.Decide.{unknown}
-use Rattle.lock.specs.Step.{edited, lookFor, decidedOn}
-use Rattle.lock.specs.Moves
-use Rattle.lock.specs.Words.{among, raising, listing}
-use Rattle.lock.specs.Moves.{RwLock, stateWith, countOf, Elsewhere, Room, answerOf, pending, pending2, obtained}
 use Rattle.steps.proofs.Verdicts.{passed}
-use Rattle.lock.proofs.MoveLaws.{handed, is-handed, unrefused, stepNo, by-number, Formed, opened, expected, Split, split}
+use Rattle.lock.specs.Step.{edited, lookFor, decidedOn}
+use Rattle.lock.specs.Words.{among, raising, listing}
+use Rattle.lock.specs.Moves.{Moves, RwLock, Field, stateWith, countOf, Elsewhere, Absent, Only, Room, answerOf, pending, pending2, obtained}
+use Rattle.lock.proofs.MoveLaws.{handed, is-handed, unrefused, stepNo, by-number, expected, Split, split}
+use Rattle.lock.proofs.MoveFlags.{releases, awaits, lock-flag, opened}
 use Rattle.lock.proofs.Pick.{_&_, pick}
+use Rattle.lock.proofs.Passes.{Formed}
+use Rattle.lock.proofs.Cells.{pastLast}
 use Rattle.lock.proofs.Counts.{set-there, set-others}
+use Rattle.lock.proofs.Reach.{release-flags, claim-flags, writeback-stored, claim-stored, read-stored, lock-withdraws, alloc-withdraws, alloc-no-refcount-withdraws}
 use Rattle.lock.proofs.MoveFacts.{Granted, granted}
 
 -- ---- a holder's own bucket, and step 6's clean
@@ -56,10 +58,6 @@ bit n k = go (eqb n 1) refl
     go true e = eqb-true n 1 e
     go false e = let d : n ≢ 1 = eqb-false n 1 e in omega arith
 
-lock-flag : (t : Bool) → lockFlag t ≡ cond t Flag.ExcLockClean Flag.ExcLockDirty
-lock-flag true = refl
-lock-flag false = refl
-
 module _ (h : Head) (l : List Reader) (q : Request) where
   -- the count at the request's bucket
   abbrev here : ℕ
@@ -70,7 +68,7 @@ module _ (h : Head) (l : List Reader) (q : Request) where
 
   -- the transition to this state allows this to be handed out
   abbrev Allows : Head → List Reader → Storage → Type 0
-  Allows h′ l′ out = Moves.Moves (stateWith h l) q (stateWith h′ l′) out
+  Allows h′ l′ out = Moves (stateWith h l) q (stateWith h′ l′) out
 
   -- if a decision is no refusal, the transition allows it, and there is room
   pub record Fits (d : Decision) : Type 0 where
@@ -87,6 +85,14 @@ module _ (h : Head) (l : List Reader) (q : Request) where
           let p = passed (st .premises) e in
           record { fits = λ out a. (moves p out (rw a (is-handed out)), room p) }
       go (Verdict.Failed why) e = record { fits = λ out a. absurd (unrefused why out a) }
+
+  -- what 20, 21 and 22 have in common: where x leaves, the transition is taken
+  abbrev Leaving : Reader → RwLock → Storage → Type 0
+  Leaving x post out =
+      (n : ℕ) (before after : List Reader) → q .bucket .0 < buckets → countOf (stateWith h l) (q .bucket) ≡ n
+      → l ≡ before ++ x ∷ after → Absent x before → post .shared-state ≡ before ++ after → 1 ≤ n
+      → countOf post (q .bucket) ≡ n - 1 → Elsewhere (stateWith h l) post (q .bucket)
+      → Only (Field.ref-counts ∷ Field.shared-state ∷ []) (stateWith h l) post out → Moves (stateWith h l) q post out
 
   -- the limits of the step with this number
   roomy : (n : ℕ) → q .step ≡ n → (T (among raising n) → countOf (stateWith h l) (q .bucket) < ceiling)
@@ -117,16 +123,16 @@ module _ (h : Head) (l : List Reader) (q : Request) where
     fits1 : q .step ≡ 1 → Fits (decided h (takeWriteback h))
     fits1 step = ran (takeWriteback h) (λ _. roomy 1 step absurd absurd) λ p out o.
         let k = given .available (p .0) in
-        Moves.take-writeback (valueOf (h .storage)) step (k .0) refl (k .1) (k .2, refl) (search)
+        Moves.take-writeback (valueOf (h .storage)) step (k .0) refl (writeback-stored h l s p) (k .1, refl) (search)
 
     fits2 : q .step ≡ 2 → Fits (decided h (releaseWriteback h))
     fits2 step = ran (releaseWriteback h) (λ _. roomy 2 step absurd absurd) λ p out o.
-        Moves.release-writeback _ step (is-held _ (p .0), refl) (given .held (p .0)) (search)
+        Moves.release-writeback _ step (is-held _ (p .0), refl) (releases (h .flag) (release-flags h l s p)) (search)
 
     fits3 : q .step ≡ 3 → Fits (decided h (bucketlessClaim h))
     fits3 step = ran (bucketlessClaim h) (λ _. roomy 3 step absurd absurd) λ p out o.
         let k = given .claims (p .0) in
-        Moves.bucketless-claim (valueOf (h .storage)) step (k .2) (k .0) (k .1, refl) (search)
+        Moves.bucketless-claim (valueOf (h .storage)) step (k .1) (claim-stored h l s p) (k .0, refl) (search)
 
     fits4 : q .step ≡ 4 → Fits (decided h (sharedToClaim h q (findIn l (obtained (q .bucket) (q .value)))))
     fits4 step =
@@ -135,11 +141,11 @@ module _ (h : Head) (l : List Reader) (q : Request) where
         let k = given .claims (p .0) in
         let at = split l x (p .1 .0) in
         Moves.shared-to-claim x (at .before) (at .after) step refl (at .whole) (at .first) (at .removed)
-        (k .2) (k .1, refl) (search)
+        (k .1) (k .0, refl) (search)
 
     fits5 : q .step ≡ 5 → Fits (decided h (claimToPending h))
     fits5 step = ran (claimToPending h) (λ _. roomy 5 step absurd absurd) λ p out o.
-        Moves.claim-to-pending _ _ step (is-claim _ (p .0)) refl (given .claim (p .0)) (search)
+        Moves.claim-to-pending _ _ step (is-claim _ (p .0)) refl (awaits (h .flag) (claim-flags h l s p)) (search)
 
     fits6 : q .step ≡ 6 → Fits (decided h (takeExcLockFinishWriteback h q))
     fits6 step = ran (takeExcLockFinishWriteback h q) (λ _. roomy 6 step absurd absurd) λ p out o.
@@ -160,7 +166,7 @@ module _ (h : Head) (l : List Reader) (q : Request) where
     fits8 step = ran (withdrawTakeExcLockFinish h) (λ _. roomy 8 step absurd absurd) λ p out o.
         let e = h .«exc_state» in
         Moves.withdraw-take-exc-lock-finish _ _ _ _ step (is-pending e (p .0)) (eqb→eq (excVisited e .0) buckets (p .1 .0)) refl
-        (known s .pending-in (p .0), refl, o) (search)
+        (lock-withdraws h l s p, refl, o) (search)
 
     fits9 : q .step ≡ 9 → Fits (decided h (depositDowngradeExcLock h q full))
     fits9 step =
@@ -176,12 +182,12 @@ module _ (h : Head) (l : List Reader) (q : Request) where
     fits11 : q .step ≡ 11 → Fits (decided h (withdrawAlloc h))
     fits11 step = ran (withdrawAlloc h) (λ _. roomy 11 step absurd absurd) λ p out o.
         let k = given .unmapped (p .0) in
-        Moves.withdraw-alloc _ step (k .0) refl (k .2, refl) (k .1, refl, o) (search)
+        Moves.withdraw-alloc _ step (k .0) refl (k .1, refl) (alloc-withdraws h l s p, refl, o) (search)
 
     fits12 : q .step ≡ 12 → Fits (decided h (withdrawAllocNoRefcount h))
     fits12 step = ran (withdrawAllocNoRefcount h) (λ _. roomy 12 step absurd absurd) λ p out o.
         let k = given .unmapped (p .0) in
-        Moves.withdraw-alloc-no-refcount _ step (k .0) refl (k .2, refl) (k .1, refl, o) (search)
+        Moves.withdraw-alloc-no-refcount _ step (k .0) refl (k .1, refl) (alloc-no-refcount-withdraws h l s p, refl, o) (search)
 
     fits13 : q .step ≡ 13 → Fits (decided h (loadingIncCount h q))
     fits13 step = ran (loadingIncCount h q) (λ p. roomy 13 step (λ _. ltb→lt here ceiling (p .1 .0)) absurd) λ p out o.
@@ -231,31 +237,31 @@ module _ (h : Head) (l : List Reader) (q : Request) where
         let below = formed .bucket in
         Moves.shared-inc-count here step below refl (there b (here + 1) below) (others b (here + 1) refl) refl (search)
 
-    -- 20 to 22: the reader that is found, and the count at its bucket
-    fits20 : q .step ≡ 20 → Fits (decided h (sharedDecCount h q (findIn l (pending (q .bucket)))))
-    fits20 step = ran (sharedDecCount h q (findIn l (pending (q .bucket)))) (λ _. roomy 20 step absurd absurd) λ p out o.
+    -- 20 to 22: the reader that is found, and the count at its bucket; `line` is the constructor, its step given
+    leaves : (phase : Phase) → Room (stateWith h l) q
+        → ((post : RwLock) (out : Storage) → Leaving (reader phase (q .bucket)) post out)
+        → Fits (decided h (sharedDecCount h q (findIn l (reader phase (q .bucket)))))
+    leaves phase room line = ran (sharedDecCount h q (findIn l (reader phase (q .bucket)))) (λ _. room) λ p out o.
         let b = q .bucket in
         let below = formed .bucket in
-        let at = split l (pending b) (p .0) in
-        Moves.shared-dec-count-pending here (at .before) (at .after) step below refl (at .whole) (at .first) (at .removed)
+        let at = split l (reader phase b) (p .0) in
+        line _ out here (at .before) (at .after) below refl (at .whole) (at .first) (at .removed)
         (counted at) (there b (here - 1) below) (others b (here - 1) refl) (search)
 
+    fits20 : q .step ≡ 20 → Fits (decided h (sharedDecCount h q (findIn l (pending (q .bucket)))))
+    fits20 step =
+        leaves Phase.Pending (roomy 20 step absurd absurd)
+        λ post out n before after. Moves.shared-dec-count-pending n before after step
+
     fits21 : q .step ≡ 21 → Fits (decided h (sharedDecCount h q (findIn l (pending2 (q .bucket)))))
-    fits21 step = ran (sharedDecCount h q (findIn l (pending2 (q .bucket)))) (λ _. roomy 21 step absurd absurd) λ p out o.
-        let b = q .bucket in
-        let below = formed .bucket in
-        let at = split l (pending2 b) (p .0) in
-        Moves.shared-dec-count-pending2 here (at .before) (at .after) step below refl (at .whole) (at .first) (at .removed)
-        (counted at) (there b (here - 1) below) (others b (here - 1) refl) (search)
+    fits21 step =
+        leaves Phase.Pending2 (roomy 21 step absurd absurd)
+        λ post out n before after. Moves.shared-dec-count-pending2 n before after step
 
     fits22 : q .step ≡ 22 → Fits (decided h (sharedDecCount h q (findIn l (obtained (q .bucket) (q .value)))))
     fits22 step =
-        ran (sharedDecCount h q (findIn l (obtained (q .bucket) (q .value)))) (λ _. roomy 22 step absurd absurd) λ p out o.
-        let b = q .bucket in
-        let below = formed .bucket in
-        let at = split l (obtained b (q .value)) (p .0) in
-        Moves.shared-dec-count-obtained here (at .before) (at .after) step below refl (at .whole) (at .first) (at .removed)
-        (counted at) (there b (here - 1) below) (others b (here - 1) refl) (search)
+        leaves (Phase.Obtained (q .value)) (roomy 22 step absurd absurd)
+        λ post out n before after. Moves.shared-dec-count-obtained n before after step
 
     fits23 : q .step ≡ 23 → Fits (decided h (sharedCheckExc h q (findIn l (pending (q .bucket)))))
     fits23 step = ran (sharedCheckExc h q (findIn l (pending (q .bucket)))) (λ _. roomy 23 step absurd absurd) λ p out o.
@@ -267,16 +273,15 @@ module _ (h : Head) (l : List Reader) (q : Request) where
     fits24 step = ran (sharedCheckLoading h q (findIn l (pending2 (q .bucket)))) (λ _. roomy 24 step absurd absurd) λ p out o.
         let v = valueOf (h .storage) in
         let at = split l (pending2 (q .bucket)) (p .1 .0) in
-        let stored = pending2-in s _ (at .inside) (ap (λ (r : Reader). r .phase) (at .equal)) (p .0) in
         Moves.shared-check-loading v (at .before) (at .after) step (formed .bucket) (λ f. rw f at (p .0)) (at .whole) (at .first)
-        stored (at .put (obtained (q .bucket) v)) (search)
+        (read-stored h l s q p) (at .put (obtained (q .bucket) v)) (search)
 
     -- all of them, by number; no step has number 0
     pub told : Fits (decidedOn h l q)
     unfolding lookFor
     told =
         rw by-number
-        (pick 25 (λ (n : ℕ). q .step ≡ n → Fits (decided h (stepNo h l q n)))
+        (pick pastLast (λ (n : ℕ). q .step ≡ n → Fits (decided h (stepNo h l q n)))
         ((λ _. ran (unknown h) (λ p. absurd (p .0)) λ p. absurd (p .0))
         & fits1 & fits2 & fits3 & fits4 & fits5 & fits6 & fits7 & fits8 & fits9 & fits10 & fits11 & fits12
         & fits13 & fits14 & fits15 & fits16 & fits17 & fits18 & fits19 & fits20 & fits21 & fits22 & fits23 & fits24 & tt)

@@ -1,60 +1,55 @@
 -- The step over pages: a sound page stays sound whatever the request is (`step-keeps`), a refusal leaves the page as it was,
--- sound or not (`refused-keeps-all`), and an unsound page is refused (`unsound-stays`). On a sound page the step is the
--- decision on its head and its list (`step-listed`), since an edit of the array is the edit of the list (`edited-listed`).
--- Assumes nothing.
-use Prim.Native.Nat.{ℕ, _+_, _≤_}
+-- sound or not (`refused-keeps-all`); an unsound page is refused (`unsound-stays`), and so is a request that is not well
+-- formed (`unfit-stays`). On a sound page the step is the decision on its head and its list (`step-listed`), since an edit of
+-- the array is the edit of the list (`edited-listed`). Assumes nothing.
+use Prim.Native.Nat.{ℕ, _≤_}
 use mathlib.Core.Path.{_≡_, refl, ap, _∙_}
 use mathlib.Core.Bool.{Bool, true, false, cond}
-use mathlib.Core.List.{List, [], _∷_, append-nil}
+use mathlib.Core.List.{List, [], _∷_}
 use native.Mathlib.Omega.{arith}
 use borrow.Author.Tests.{ltb-true, ltb-false, le-leb, le-ltb}
 use lib.Dec.{T, leb, ltb}
-use lib.ListN.{length, set, length-append, drop-of-length-le}
-use lib.Seq.{set-out, take-all}
+use lib.ListN.{length, set, length-append}
+use lib.Seq.{set-out}
 use Rattle.kinds.specs.Limits.{capacity}
 use Rattle.kinds.specs.declared.Reader.{Reader}
 use Rattle.readers.specs.declared.Readers.{Readers}
-use Rattle.readers.specs.declared.Found.{Found}
 use Rattle.readers.specs.declared.Pushed.{Pushed}
 use Rattle.readers.specs.Lists.{without}
 use Rattle.readers.specs.Listed.{live, listed, putAt, removedAt}
 use Rattle.readers.proofs.Tests.{to-true}
+use Rattle.readers.proofs.Lists.{without-out}
 use Rattle.readers.proofs.Bridge.{live-listed, pushed-listed, put-listed, removed-listed}
 use Rattle.page_record.specs.declared.Head.{Head}
 use Rattle.page_record.specs.declared.Page.{Page}
 use Rattle.page_record.specs.Pages.{headOf, pageOf}
 use Rattle.page_record.specs.Rules.{soundOf}
 use Rattle.page_record.specs.Facts.{Sound}
-use Rattle.page_record.proofs.Tested.{facts, tested-parts, every-default}
+use Rattle.page_record.proofs.Tested.{facts, tested-parts}
 use Rattle.steps.specs.declared.Refusal.{Refusal}
 use Rattle.steps.specs.declared.Answer.{Answer}
 use Rattle.steps.specs.declared.Verdict.{Verdict}
 use Rattle.steps.specs.declared.Edit.{Edit}
 use Rattle.steps.specs.declared.Request.{Request}
 use Rattle.steps.specs.declared.Decision.{Decision}
-use Rattle.steps.specs.Premises.{Step, verdict, settled}
 use Rattle.steps.specs.Requests.{judged}
-use Rattle.steps.specs.Decide.{unknown, steps, stepAt, decideOf, soughtOf}
+use Rattle.steps.specs.Decide.{soughtOf}
+use Rattle.steps.proofs.Verdicts.{decide-keeps}
 use Rattle.lock.specs.declared.Outcome.{Outcome}
 use Rattle.lock.specs.Step.{edited, editedIn, lookFor, decidedOn, refusedBy, applied, stepped, stepOf}
-use Rattle.lock.proofs.Passes.{judged-bucket}
+use Rattle.lock.proofs.Passes.{formed}
 use Rattle.lock.proofs.Rows.{keeps}
 
 -- ---- the edit of the array is the edit of the list
 -- past the end nothing changes
 module _ (l : List Reader) (i : ℕ) (h : length l ≤ capacity) (out : length l ≤ i) where
-  without-out : without i l ≡ l
-  without-out =
-      let past : length l ≤ i + 1 = omega arith in
-      rw (take-all i l, drop-of-length-le l {i = i + 1}, append-nil)
-
   put-out : (r : Reader) → putAt (listed l) i r ≡ listed (set l i r)
   unfolding putAt
   put-out r = simp (le-leb _ _ h, le-ltb _ _ out, set-out l i r)
 
   removed-out : removedAt (listed l) i ≡ listed (without i l)
   unfolding removedAt
-  removed-out = rw without-out (simp (le-leb _ _ h, le-ltb _ _ out))
+  removed-out = rw (without-out l i out) (simp (le-leb _ _ h, le-ltb _ _ out))
 
 pub edited-listed : (e : Edit) (l : List Reader) → length l ≤ capacity → length (edited e l) ≤ capacity
     → editedIn e (listed l) ≡ listed (edited e l)
@@ -78,19 +73,23 @@ abbrev pub outcomeOf : List Reader → Decision → Outcome
 outcomeOf l d = record { answer = d .answer; page = pageOf (d .head) (listed (edited (d .edit) l)) }
 
 module _ (q : Request) (fit : judged q ≡ Verdict.Passed) where
-  on-listed : (h : Head) (l : List Reader) → Sound h l → stepped (pageOf h (listed l)) q Verdict.Passed ≡ outcomeOf l (decidedOn h l q)
+  on-listed : (h : Head) (l : List Reader) → Sound h l
+      → stepped (pageOf h (listed l)) q Verdict.Passed ≡ outcomeOf l (decidedOn h l q)
   on-listed h l s =
       let d = decidedOn h l q in
-      let k = keeps h l q (judged-bucket q fit) s in
+      let k = keeps h l q (formed q fit .bucket) s in
       rw (live-listed l)
-      (ap (λ (rs : Readers). record { answer = d .answer; page = pageOf (d .head) rs }) (edited-listed (d .edit) l (s .room) (k .sound .room)))
+      (ap (λ (rs : Readers). record { answer = d .answer; page = pageOf (d .head) rs })
+      (edited-listed (d .edit) l (s .room) (k .sound .room)))
 
-  pub step-listed : (p : Page) → T (soundOf p) → stepOf p q ≡ outcomeOf (live (p .readers)) (decidedOn (headOf p) (live (p .readers)) q)
+  pub step-listed : (p : Page) → T (soundOf p)
+      → stepOf p q ≡ outcomeOf (live (p .readers)) (decidedOn (headOf p) (live (p .readers)) q)
   unfolding stepOf
   step-listed p t =
       let f = facts p t in
       rw (to-true (soundOf p) t, fit)
-      (ap (λ (rs : Readers). stepped (pageOf (headOf p) rs) q Verdict.Passed) (f .neat) ∙ on-listed (headOf p) (live (p .readers)) (f .parts))
+      (ap (λ (rs : Readers). stepped (pageOf (headOf p) rs) q Verdict.Passed) (f .neat)
+      ∙ on-listed (headOf p) (live (p .readers)) (f .parts))
 
 -- ---- over pages
 -- an unsound page is refused
@@ -99,7 +98,8 @@ unfolding stepOf
 unsound-stays p q e = rw e
 
 -- so is a request that is not well formed
-pub unfit-stays : (p : Page) (q : Request) (why : Refusal) → T (soundOf p) → judged q ≡ Verdict.Failed why → stepOf p q ≡ refusedBy p why
+pub unfit-stays : (p : Page) (q : Request) (why : Refusal) → T (soundOf p) → judged q ≡ Verdict.Failed why
+    → stepOf p q ≡ refusedBy p why
 unfolding stepOf
 unfit-stays p q why t e = rw (to-true (soundOf p) t, e)
 
@@ -110,28 +110,13 @@ step-keeps p q t = go (judged q) refl
     go Verdict.Passed e =
         let l = live (p .readers) in
         let d = decidedOn (headOf p) l q in
-        let k = keeps (headOf p) l q (judged-bucket q e) (facts p t .parts) in
+        let k = keeps (headOf p) l q (formed q e .bucket) (facts p t .parts) in
         rw (step-listed q e p t) (tested-parts (d .head) (edited (d .edit) l) (k .sound))
     go (Verdict.Failed why) e = rw (unfit-stays p q why t e) t
 
 -- ---- a refusal changes nothing
-abbrev accepting : Answer → Bool
-accepting Answer.Accepted = true
-accepting (Answer.Withdrew value) = true
-accepting (Answer.Refused why) = false
-
--- what a step answers where its premises hold is no refusal
-accepts-all : (h : Head) (q : Request) (found : Found) (full : Bool) → T (accepting (stepAt h q found full .answer))
-accepts-all h q found full = every-default (λ (st : Step). accepting (st .answer)) (steps h q found full) (q .step) (unknown h) tt tt
-
-refused-keeps : (p : Page) (st : Step) (v : Verdict) (why : Refusal) → T (accepting (st .answer))
-    → settled (headOf p) st v .answer ≡ Answer.Refused why → applied p (settled (headOf p) st v) .page ≡ p
-unfolding editedIn
-refused-keeps p st Verdict.Passed why t a = absurd (rw a at t)
-refused-keeps p st (Verdict.Failed w) why t a = refl
-
 pub refused-keeps-all : (p : Page) (q : Request) (why : Refusal) → stepOf p q .answer ≡ Answer.Refused why → stepOf p q .page ≡ p
-unfolding stepOf decideOf
+unfolding stepOf editedIn
 refused-keeps-all p q why = go (soundOf p) (judged q)
   where
     go : (t : Bool) (v : Verdict) → cond t (stepped p q v) (refusedBy p Refusal.Unsound) .answer ≡ Answer.Refused why
@@ -141,5 +126,4 @@ refused-keeps-all p q why = go (soundOf p) (judged q)
     go true Verdict.Passed e =
         let found = lookFor (live (p .readers)) (soughtOf q) in
         let full = leb capacity (p .readers .len) in
-        let st = stepAt (headOf p) q found full in
-        refused-keeps p st (verdict (st .premises)) why (accepts-all (headOf p) q found full) e
+        ap (λ (d : Decision). applied p d .page) (decide-keeps (headOf p) q found full why e)

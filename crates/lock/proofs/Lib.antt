@@ -7,9 +7,14 @@ pub mod Shared
 pub mod Rows
 pub mod Keeps
 pub mod Reach
+pub mod Numbered
+pub mod Fields
+pub mod Tables
 pub mod Least
+pub mod MoveFlags
 pub mod MoveLaws
 pub mod MoveFacts
 pub mod Takes
 pub mod Fits
 pub mod Exact
+pub mod Machine

@@ -1,11 +1,12 @@
--- What the ⇒ half needs to know of a head: what the source takes for granted and soundness shows, read off the twelve shapes: that `get_Some_0` finds a value, that no arm
--- `assert false` is reached, that an `add` finds its place free and a `deposit` storage out. Assumes nothing.
+-- What the source takes for granted of a head and soundness shows, beside the values and arms of Reach.antt: that an `add` finds
+-- its place free and a `deposit` storage out, and which flag a step's test lets through. Read off the twelve shapes
+-- (`granted`), for the ⇒ half. Assumes nothing.
 use mathlib.Core.Path.{_≡_}
-use mathlib.Core.Logic.{_⊎_, inl, inr}
-use mathlib.Core.Bool.{true, false, not}
+use mathlib.Core.Logic.{inl, inr}
+use mathlib.Core.Bool.{true, false}
 use mathlib.Core.List.{List}
 use lib.Dec.{T}
-use Rattle.kinds.specs.Flags.{isAvailable, claimable, isUnmapped, released, claimed, awaited}
+use Rattle.kinds.specs.Flags.{isAvailable, claimable, isUnmapped, claimed}
 use Rattle.kinds.specs.declared.Count.{Count}
 use Rattle.kinds.specs.declared.Flag.{Flag}
 use Rattle.kinds.specs.declared.Storage.{Storage}
@@ -13,60 +14,41 @@ use Rattle.kinds.specs.declared.ExcState.{ExcState}
 use Rattle.kinds.specs.declared.LoadingState.{LoadingState}
 use Rattle.kinds.specs.declared.WritebackState.{WritebackState}
 use Rattle.page_record.specs.declared.Head.{Head}
-use Rattle.page_record.specs.Holders.{validBucket, isClaim, isEditing, isLoaded, loadingBucket, noWriteback}
+use Rattle.page_record.specs.Holders.{validBucket, isEditing, isLoaded, loadingBucket}
 use Rattle.page_record.specs.Facts.{headSound}
 use Rattle.page_record.specs.Shapes.{Shape, headAt, valid}
 use Rattle.page_record.specs.Shapes as Shapes
 use Rattle.page_record.proofs.Shapes.{by-shape}
-use Rattle.page_record.proofs.Known.{Stored}
-
--- ---- what the source takes for granted
--- the flag is x, and becomes y
-abbrev pub Turns : Flag → Flag → Flag → Flag → Type 0
-Turns before after x y = (before ≡ x) × (after ≡ y)
+use Rattle.lock.proofs.MoveFlags.{Claims}
 
 pub record Granted (h : Head) : Type 0 where
   -- 1
-  pub available : T (isAvailable (h .flag))
-      → (h .flag ≡ Flag.Available) × Stored (h .storage) × (h .«writeback_state» ≡ WritebackState.None)
-  -- 2: no other arm is reached
-  pub held : T (not (noWriteback (h .«writeback_state»)))
-      → Turns (h .flag) (released (h .flag)) Flag.Writeback Flag.Available
-      ⊎ Turns (h .flag) (released (h .flag)) Flag.WritebackAndPendingExcLock Flag.PendingExcLock
-      ⊎ Turns (h .flag) (released (h .flag)) Flag.WritebackAndClaimed Flag.Claimed
+  pub available : T (isAvailable (h .flag)) → (h .flag ≡ Flag.Available) × (h .«writeback_state» ≡ WritebackState.None)
   -- 3 and 4
-  pub claims : T (claimable (h .flag))
-      → Stored (h .storage) × (h .«exc_state» ≡ ExcState.None)
-      × (Turns (h .flag) (claimed (h .flag)) Flag.Available Flag.Claimed
-      ⊎ Turns (h .flag) (claimed (h .flag)) Flag.Writeback Flag.WritebackAndClaimed)
-  -- 5: no other arm is reached
-  pub claim : T (isClaim (h .«exc_state»))
-      → Turns (h .flag) (awaited (h .flag)) Flag.Claimed Flag.PendingExcLock
-      ⊎ Turns (h .flag) (awaited (h .flag)) Flag.WritebackAndClaimed Flag.WritebackAndPendingExcLock
+  pub claims : T (claimable (h .flag)) → (h .«exc_state» ≡ ExcState.None) × Claims (h .flag) (claimed (h .flag))
   -- 9 and 10
   pub editing : T (isEditing (h .«exc_state»)) → h .storage ≡ Storage.Out
   -- 11 and 12
-  pub unmapped : T (isUnmapped (h .flag))
-      → (h .flag ≡ Flag.Unmapped) × Stored (h .storage) × (h .«loading_state» ≡ LoadingState.None)
+  pub unmapped : T (isUnmapped (h .flag)) → (h .flag ≡ Flag.Unmapped) × (h .«loading_state» ≡ LoadingState.None)
   -- 16 and 17
   pub loaded : T (isLoaded (h .«loading_state»))
       → (h .storage ≡ Storage.Out) × T (validBucket (loadingBucket (h .«loading_state»)))
 
 granted-at : (z : Shape) (cs : List Count) → T (valid z) → Granted (headAt z cs)
-granted-at (Shapes.unmapped v) cs ok = search (absurd, inl, inr)
-granted-at Shapes.waiting cs ok = search (absurd, inl, inr)
-granted-at (Shapes.counted b) cs ok = search (absurd, inl, inr)
-granted-at (Shapes.loaded m) cs ok = search (absurd, inl, inr)
-granted-at (Shapes.available v) cs ok = search (absurd, inl, inr)
-granted-at (Shapes.claimed m v) cs ok = search (absurd, inl, inr)
-granted-at (Shapes.writeback v) cs ok = search (absurd, inl, inr)
-granted-at (Shapes.writebackClaimed m v) cs ok = search (absurd, inl, inr)
-granted-at (Shapes.writebackAwait m v) cs ok = search (absurd, inl, inr)
-granted-at (Shapes.await m v) cs ok = search (absurd, inl, inr)
-granted-at (Shapes.pending m n true v) cs ok = search (absurd, inl, inr)
-granted-at (Shapes.pending m n false v) cs ok = search (absurd, inl, inr)
-granted-at (Shapes.editing m true) cs ok = search (absurd, inl, inr)
-granted-at (Shapes.editing m false) cs ok = search (absurd, inl, inr)
+granted-at (Shapes.unmapped v) cs ok = search absurd
+granted-at Shapes.waiting cs ok = search absurd
+granted-at (Shapes.counted b) cs ok = search absurd
+granted-at (Shapes.loaded m) cs ok = search absurd
+granted-at (Shapes.available v) cs ok = search (absurd, inl)
+granted-at (Shapes.claimed m v) cs ok = search absurd
+granted-at (Shapes.writeback v) cs ok = search (absurd, inr)
+granted-at (Shapes.writebackClaimed m v) cs ok = search absurd
+granted-at (Shapes.writebackAwait m v) cs ok = search absurd
+granted-at (Shapes.await m v) cs ok = search absurd
+granted-at (Shapes.pending m n true v) cs ok = search absurd
+granted-at (Shapes.pending m n false v) cs ok = search absurd
+granted-at (Shapes.editing m true) cs ok = search absurd
+granted-at (Shapes.editing m false) cs ok = search absurd
 
 pub granted : (h : Head) → T (headSound h) → Granted h
 granted = by-shape Granted granted-at

@@ -1,22 +1,19 @@
--- What both halves of the theorem use: what it is to be accepted; what a request that is judged well formed says of its
--- fields; the flags of step 23 and what step 7 expects, in the relation's words; the list taken apart at the first equal
--- reader; the counts after one is set. Assumes nothing.
-use Prim.Native.Nat.{ℕ, _+_, _≤_, _<_}
+-- What both halves of the theorem use: what it is to be accepted (`Accepts`); what step 7 expects, in the relation's words
+-- (`Expects`); the list taken apart at the first equal reader (`find-first`, `split`); the counts after one is set (`is-set`).
+-- The flags are in MoveFlags.antt. Assumes nothing.
+use Prim.Native.Nat.{ℕ, _+_, _<_}
 use mathlib.Core.Path.{_≡_, refl, sym, ap, _∙_}
 use mathlib.Core.Logic.{_⊎_, inl, inr, _≢_}
-use mathlib.Core.Bool.{Bool, true, false, not, cond, _&&_, _||_}
+use mathlib.Core.Bool.{Bool, true, false, not, cond}
 use mathlib.Core.List.{List, [], _∷_, _++_}
 use native.Mathlib.Omega.{arith}
-use native.Mathlib.Numerals.{add-one}
-use lib.Dec.{T, eqb, leb, leb→le}
+use lib.Dec.{T, eqb, leb}
 use lib.ListN.{length, take, drop, getD, set, length-set}
-use lib.Seq.{split-at, set-split, ext-getD}
+use lib.Seq.{ext-getD}
 use borrow.Author.Tests.{eqb-true, eqb-false, eq-eqb, ne-eqb}
-use Rattle.kinds.specs.Limits.{buckets, capacity}
-use Rattle.kinds.specs.Flags.{openToReaders}
+use Rattle.kinds.specs.Limits.{capacity}
 use Rattle.kinds.specs.declared.Count.{Count}
 use Rattle.kinds.specs.declared.MaybeBucket.{MaybeBucket}
-use Rattle.kinds.specs.declared.Flag.{Flag}
 use Rattle.kinds.specs.declared.Storage.{Storage}
 use Rattle.kinds.specs.declared.Reader.{Reader}
 use Rattle.readers.specs.declared.Found.{Found}
@@ -25,26 +22,21 @@ use Rattle.readers.specs.Same.{sameReader}
 use Rattle.readers.specs.Listed.{findIn, blankReader}
 use Rattle.readers.proofs.Tests.{both, halves, to-true, is-true}
 use Rattle.readers.proofs.Equal.{same-refl, same-is}
-use Rattle.readers.proofs.First.{absent, find-split}
+use Rattle.readers.proofs.First.{absent, found, split-of-found, find-split, removed-first, put-first}
 use Rattle.page_record.specs.declared.Head.{Head}
 use Rattle.page_record.specs.Holders.{bucketOf}
 use Rattle.page_record.specs.Pages.{numberAt}
 use Rattle.page_record.specs.References.{refAt}
 use Rattle.steps.specs.declared.Refusal.{Refusal}
 use Rattle.steps.specs.declared.Answer.{Answer}
-use Rattle.steps.specs.declared.Verdict.{Verdict}
 use Rattle.steps.specs.declared.Sought.{Sought}
 use Rattle.steps.specs.declared.Request.{Request}
 use Rattle.steps.specs.declared.Decision.{Decision}
 use Rattle.steps.specs.Premises.{Step, decided}
-use Rattle.steps.specs.Requests.{lastStep, takesBucket, takesClean, takesValue, formal, judged}
 use Rattle.steps.specs.Steps.{isFound, placeOf}
 use Rattle.steps.specs.Decide.{unknown, steps, sought, decideOf, soughtOf}
 use Rattle.lock.specs.Step.{edited, lookFor, decidedOn}
 use Rattle.lock.specs.Moves.{some, Absent, answerOf}
-use Rattle.steps.proofs.Verdicts.{passed}
-use Rattle.lock.proofs.Passes.{judged-bucket}
-use Rattle.lock.proofs.Cells.{found-first}
 use Rattle.lock.proofs.Counts.{set-there, set-others}
 
 -- ---- acceptance
@@ -80,55 +72,7 @@ pub by-number : (h : Head) (l : List Reader) (q : Request) → decidedOn h l q �
 unfolding decideOf soughtOf
 by-number h l q = refl
 
--- ---- a request that is judged well formed
-pub record Formed (q : Request) : Type 0 where
-  pub most : q .step ≤ lastStep
-  pub bucket : q .bucket .0 < buckets
-  pub clean : q .clean ≤ 1
-
-clean-below : (t : Bool) (c : ℕ) → T (leb c (cond t 1 0)) → c ≤ 1
-clean-below true c t = leb→le c 1 t
-clean-below false c t = omega (arith, leb→le c 0 t)
-
-pub formed : (q : Request) → judged q ≡ Verdict.Passed → Formed q
-unfolding judged
-formed q e =
-    let p = passed (formal q) e in
-    let n = q .step in
-    let bucket = takesBucket n || eqb (q .bucket .0) 0 in
-    let clean = leb (q .clean) (cond (takesClean n) 1 0) in
-    let fields = halves bucket clean (halves (bucket && clean) (takesValue n || eqb (q .value) 0) (p .1 .0) .0) in
-    record {
-      most = leb→le n lastStep (halves (leb 1 n) (leb n lastStep) (p .0) .1);
-      bucket = judged-bucket q e;
-      clean = clean-below (takesClean n) (q .clean) (fields .1);
-    }
-
--- ---- the relation's words and the tests
--- the five flags of step 23
-abbrev pub Open : Flag → Type 0
-Open f = (f ≡ Flag.Available) ⊎ (f ≡ Flag.Writeback) ⊎ (f ≡ Flag.Claimed) ⊎ (f ≡ Flag.WritebackAndClaimed) ⊎ (f ≡ Flag.Loading)
-
-pub is-open : (f : Flag) → Open f → openToReaders f ≡ true
-is-open f (inl e) = rw e
-is-open f (inr (inl e)) = rw e
-is-open f (inr (inr (inl e))) = rw e
-is-open f (inr (inr (inr (inl e)))) = rw e
-is-open f (inr (inr (inr (inr e)))) = rw e
-
-pub opened : (f : Flag) → T (openToReaders f) → Open f
-opened Flag.Unmapped t = absurd t
-opened Flag.Loading t = inr (inr (inr (inr refl)))
-opened Flag.LoadingExcLock t = absurd t
-opened Flag.Available t = inl refl
-opened Flag.Claimed t = inr (inr (inl refl))
-opened Flag.Writeback t = inr (inl refl)
-opened Flag.WritebackAndClaimed t = inr (inr (inr (inl refl)))
-opened Flag.WritebackAndPendingExcLock t = absurd t
-opened Flag.PendingExcLock t = absurd t
-opened Flag.ExcLockClean t = absurd t
-opened Flag.ExcLockDirty t = absurd t
-
+-- ---- step 7, in the relation's words
 -- what step 7 expects at bucket n of an editor that has bucket m
 abbrev pub Expects : MaybeBucket → ℕ → ℕ → Type 0
 Expects m n c = ((some (record { 0 = n }) ≡ m) × (c ≡ 1)) ⊎ ((some (record { 0 = n }) ≢ m) × (c ≡ 0))
@@ -136,7 +80,8 @@ Expects m n c = ((some (record { 0 = n }) ≡ m) × (c ≡ 1)) ⊎ ((some (recor
 pub is-expected : (m : MaybeBucket) (n c : ℕ) → Expects m n c → refAt m n ≡ c
 is-expected m n c (inl p) = rw (← p .0, eq-eqb n n refl) (sym (p .1))
 is-expected MaybeBucket.None n c (inr p) = sym (p .1)
-is-expected (MaybeBucket.At b) n c (inr p) = rw (ne-eqb (b .0) n (λ e. p .0 (ap (λ (x : ℕ). some (record { 0 = x })) (sym e)))) (sym (p .1))
+is-expected (MaybeBucket.At b) n c (inr p) =
+    rw (ne-eqb (b .0) n (λ e. p .0 (ap (λ (x : ℕ). some (record { 0 = x })) (sym e)))) (sym (p .1))
 
 pub expected : (m : MaybeBucket) (n : ℕ) → Expects m n (refAt m n)
 expected MaybeBucket.None n = inr ((λ e. let z : _≡_ {A = ℕ} 0 1 = cc in omega arith), refl)
@@ -178,20 +123,24 @@ pub record Split (x : Reader) (l : List Reader) (i : ℕ) : Type 0 where
   pub equal : getD l i blankReader ≡ x
 
 pub split : (l : List Reader) (x : Reader) → T (isFound (findIn l x)) → Split x l (placeOf (findIn l x))
-split l x t =
-    let i = placeOf (findIn l x) in
-    let f = found-first l x t in
-    let inside : i < length l = f .inside in
-    record {
-      before = take i l;
-      after = drop (i + 1) l;
-      whole = split-at l i blankReader inside ∙ rw (f .equal, ← add-one i);
-      first = is-absent x (take i l) (f .before);
-      removed = refl;
-      put = λ y. rw add-one (set-split l i y inside);
-      inside = inside;
-      equal = f .equal;
-    }
+split l x = go (findIn l x) refl
+  where
+    go : (o : Found) → findIn l x ≡ o → T (isFound o) → Split x l (placeOf o)
+    go Found.Nowhere e t = absurd t
+    go (Found.At i) e t =
+        let f = found x l i e in
+        let whole = split-of-found x l i e in
+        let there = ap (λ (m : List Reader). findIn m x) (sym whole) ∙ e in
+        record {
+          before = take i l;
+          after = drop (i + 1) l;
+          whole = whole;
+          first = is-absent x (take i l) (f .before);
+          removed = ap (without i) whole ∙ removed-first x (take i l) (drop (i + 1) l) (f .before) i there;
+          put = λ y. ap (λ (m : List Reader). set m i y) whole ∙ put-first x (take i l) (drop (i + 1) l) (f .before) i there y;
+          inside = f .inside;
+          equal = f .equal;
+        }
 
 -- ---- the counts: the one that is set, and the others
 module _ (cs : List Count) (a n : ℕ) where

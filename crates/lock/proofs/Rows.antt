@@ -84,14 +84,16 @@ module _ (m : MaybeBucket) (n : Visited) (clean : Bool) (v : ℕ) (cs : List Cou
   visits {l} s ok k e =
       let more : T (leb (n .0 + 1) buckets) = le→leb (n .0 + 1) buckets (omega arith) in
       let away = tally-none (isAt (n .0)) l (none-at s (n .0) k e) in
-      sound-of (shaped next cs (both (leb (n .0 + 1) buckets) (validBucket m) more (halves (leb (n .0) buckets) (validBucket m) ok .1)))
+      let own = halves (leb (n .0) buckets) (validBucket m) ok .1 in
+      sound-of (shaped next cs (both (leb (n .0 + 1) buckets) (validBucket m) more own))
       (every-mono staying (sharedStateValid (headAt next cs)) l closes
       (every-both (sharedStateValid (headAt (pending m n clean v) cs)) (λ r. not (isAt (n .0) r)) l (s .readers) away))
       (s .room) (counts-of s)
 
 -- 16 and 17: with the loader gone, whoever is past the first check may stay
 opens : (m : MaybeBucket) (v : ℕ) (cs cs′ : List Count) → Stay (headAt (loaded m) cs) (headAt (available v) cs′)
-opens m v cs cs′ = stays (headAt (loaded m) cs) (headAt (available v) cs′) (λ b k. record { pass = λ t. tt; hold = λ u t x. absurd x })
+opens m v cs cs′ =
+    stays (headAt (loaded m) cs) (headAt (available v) cs′) (λ b k. record { pass = λ t. tt; hold = λ u t x. absurd x })
 
 module _ (l : List Reader) (q : Request) (inside : q .bucket .0 < buckets) (found : Found) (full : Bool)
     (room : T (not full) → length l < capacity) where
@@ -164,7 +166,8 @@ module _ (l : List Reader) (q : Request) (inside : q .bucket .0 < buckets) (foun
   table (loaded (MaybeBucket.At b)) cs s ok = record {
     numbers = 16 ∷ 17 ∷ readerSteps;
     cells =
-        (λ _ p. gives b s (opens (MaybeBucket.At b) (q .value) cs cs) ok (p .1 .1 .0) (same-counts (counts-of s) (λ x. omega arith)))
+        (λ _ p.
+        gives b s (opens (MaybeBucket.At b) (q .value) cs cs) ok (p .1 .1 .0) (same-counts (counts-of s) (λ x. omega arith)))
         & (λ _ _.
         kept s (shaped (available (q .value)) (lower (b .0) cs) tt) (opens (MaybeBucket.At b) (q .value) cs (lower (b .0) cs))
         (lowered-counts (counts-of s) (b .0) (ltb→lt (b .0) buckets ok) (λ x. omega arith)))
@@ -234,7 +237,8 @@ module _ (l : List Reader) (q : Request) (inside : q .bucket .0 < buckets) (foun
   table (pending m n clean v) cs s ok = record {
     numbers = 7 ∷ 8 ∷ readerSteps;
     cells =
-        (λ _ p. visits m n clean v cs s ok (ltb→lt (n .0) buckets (p .1 .0)) (eqb→eq (numberAt cs (n .0)) (refAt m (n .0)) (p .1 .1 .0)))
+        (λ _ p.
+        visits m n clean v cs s ok (ltb→lt (n .0) buckets (p .1 .0)) (eqb→eq (numberAt cs (n .0)) (refAt m (n .0)) (p .1 .1 .0)))
         & (λ _ p.
         kept-quiet s (shaped (editing m clean) cs (halves (leb (n .0) buckets) (validBucket m) ok .1))
         (λ b. closed-passing (headAt (pending m n clean v) cs) b (p .1 .0)) (counts-of s))
@@ -256,8 +260,8 @@ module _ (l : List Reader) (q : Request) (inside : q .bucket .0 < buckets) (foun
     numbers = 9 ∷ 10 ∷ readerSteps;
     cells =
         (λ _ p.
-        gives b s (quiet (headAt (editing (MaybeBucket.At b) clean) cs) (headAt (available (q .value)) cs) (λ b k t. t)) ok (p .1 .1 .0)
-        (same-counts (counts-of s) (λ x. omega arith)))
+        gives b s (quiet (headAt (editing (MaybeBucket.At b) clean) cs) (headAt (available (q .value)) cs) (λ b k t. t))
+        ok (p .1 .1 .0) (same-counts (counts-of s) (λ x. omega arith)))
         & (λ _ _. kept-quiet s (shaped (claimed (MaybeBucket.At b) (q .value)) cs ok) (λ b k t. t) (counts-of s))
         & any s;
     others = elim clean [ true ↦ tt | false ↦ tt ];

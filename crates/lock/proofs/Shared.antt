@@ -53,15 +53,18 @@ module _ (l : List Reader) (q : Request) (inside : q .bucket .0 < buckets) (foun
   leaves f first p =
       let x = first (p .0) in
       removed s (s .head) (λ r t. t) (placeOf found) (x .inside)
-      (lowered-counts (counts-of s) (q .bucket .0) inside (λ b. omega (arith, count-without l (reader f (q .bucket)) (placeOf found) x b)))
+      (lowered-counts (counts-of s) (q .bucket .0) inside
+      (λ b. omega (arith, count-without l (reader f (q .bucket)) (placeOf found) x b)))
 
   -- 23 and 24: from phase f to g
   turns : (f g : Phase) → First l (reader f (q .bucket)) (placeOf found)
-      → T (phaseValid g (passing h (q .bucket .0)) (holding h (q .bucket .0))) → Sound h (set l (placeOf found) (reader g (q .bucket)))
+      → T (phaseValid g (passing h (q .bucket .0)) (holding h (q .bucket .0)))
+      → Sound h (set l (placeOf found) (reader g (q .bucket)))
   turns f g first t =
       put s (s .head) (λ r t. t) (placeOf found) (reader g (q .bucket))
       (both (ltb (q .bucket .0) buckets) (phaseValid g (passing h (q .bucket .0)) (holding h (q .bucket .0))) near t)
-      (same-counts (counts-of s) (λ b. omega (arith, count-put l (reader f (q .bucket)) (placeOf found) first b (reader g (q .bucket)) refl)))
+      (same-counts (counts-of s)
+      (λ b. omega (arith, count-put l (reader f (q .bucket)) (placeOf found) first b (reader g (q .bucket)) refl)))
 
   passes : Cell l q found full h 23
   passes first p = turns Phase.Pending Phase.Pending2 (first (p .1 .0)) (known s .open-passing (q .bucket .0) (p .0))

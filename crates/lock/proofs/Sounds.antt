@@ -34,7 +34,8 @@ module _ (h h′ : Head) where
     pub hold : (v : ℕ) → T (passing h b) → T (holds (h .storage) v) → T (noLoad (h .«loading_state»))
         → T (holds (h′ .storage) v) × T (noLoad (h′ .«loading_state»))
 
-  pub stays-at : (r : Reader) → (r .bucket .0 < buckets → Lets (r .bucket .0)) → T (sharedStateValid h r) → T (sharedStateValid h′ r)
+  pub stays-at : (r : Reader) → (r .bucket .0 < buckets → Lets (r .bucket .0))
+      → T (sharedStateValid h r) → T (sharedStateValid h′ r)
   stays-at r lets t =
       let k = valid-bucket h r t in
       both (ltb (r .bucket .0) buckets) (phaseValid (r .phase) (passing h′ (r .bucket .0)) (holding h′ (r .bucket .0)))
@@ -64,11 +65,12 @@ refsOf h l b = countAllRefs l (h .«exc_state») (h .«loading_state») b
 module _ (l : List Reader) (x : Reader) (i : ℕ) (f : First l x i) (b : ℕ) where
   pub count-put : (y : Reader) → y .bucket .0 ≡ x .bucket .0 → countAt b (set l i y) ≡ countAt b l
   count-put y e =
-      omega
-      (arith, tally-put (isAt b) l i y blankReader (f .inside), ap (λ (r : Reader). one (r .bucket .0) b) (f .equal), ap (λ (n : ℕ). one n b) e)
+      let same = ap (λ (n : ℕ). one n b) e in
+      omega (arith, tally-put (isAt b) l i y blankReader (f .inside), ap (λ (r : Reader). one (r .bucket .0) b) (f .equal), same)
 
   pub count-without : countAt b (without i l) + one (x .bucket .0) b ≡ countAt b l
-  count-without = omega (arith, tally-without (isAt b) l i blankReader (f .inside), ap (λ (r : Reader). one (r .bucket .0) b) (f .equal))
+  count-without =
+      omega (arith, tally-without (isAt b) l i blankReader (f .inside), ap (λ (r : Reader). one (r .bucket .0) b) (f .equal))
 
 -- ---- soundness in four parts, and the four edits
 pub counts-of : {h : Head} {l : List Reader} → Sound h l → Counts (h .«ref_counts») (refsOf h l)
@@ -76,7 +78,8 @@ counts-of s = record { four = s .four; few = s .few; equal = s .counts }
 
 pub sound-of : {h : Head} {l : List Reader} → T (headSound h) → T (every (sharedStateValid h) l) → length l ≤ capacity
     → Counts (h .«ref_counts») (refsOf h l) → Sound h l
-sound-of rules readers room c = record { head = rules; four = c .four; counts = c .equal; readers = readers; few = c .few; room = room }
+sound-of rules readers room c =
+    record { head = rules; four = c .four; counts = c .equal; readers = readers; few = c .few; room = room }
 
 stayed : (h h′ : Head) (l : List Reader) → Sound h l → Stay h h′ → T (every (sharedStateValid h′) l)
 stayed h h′ l s stay = every-mono (sharedStateValid h) (sharedStateValid h′) l stay (s .readers)
@@ -86,15 +89,19 @@ module _ {h h′ : Head} {l : List Reader} (s : Sound h l) (rules : T (headSound
     pub kept : Counts (h′ .«ref_counts») (refsOf h′ l) → Sound h′ l
     kept = sound-of rules (stayed h h′ l s stay) (s .room)
 
-    pub pushed : (r : Reader) → T (sharedStateValid h′ r) → length l < capacity → Counts (h′ .«ref_counts») (refsOf h′ (l ++ r ∷ []))
-        → Sound h′ (l ++ r ∷ [])
-    pushed r t room = sound-of rules (every-push (sharedStateValid h′) l r (stayed h h′ l s stay) t) (simp length-append (omega arith))
+    pub pushed : (r : Reader) → T (sharedStateValid h′ r) → length l < capacity
+        → Counts (h′ .«ref_counts») (refsOf h′ (l ++ r ∷ [])) → Sound h′ (l ++ r ∷ [])
+    pushed r t room =
+        sound-of rules (every-push (sharedStateValid h′) l r (stayed h h′ l s stay) t) (simp length-append (omega arith))
 
-    pub put : (i : ℕ) (r : Reader) → T (sharedStateValid h′ r) → Counts (h′ .«ref_counts») (refsOf h′ (set l i r)) → Sound h′ (set l i r)
+    pub put : (i : ℕ) (r : Reader) → T (sharedStateValid h′ r)
+        → Counts (h′ .«ref_counts») (refsOf h′ (set l i r)) → Sound h′ (set l i r)
     put i r t = sound-of rules (every-put (sharedStateValid h′) l i r (stayed h h′ l s stay) t) (rw length-set (s .room))
 
     pub removed : (i : ℕ) → i < length l → Counts (h′ .«ref_counts») (refsOf h′ (without i l)) → Sound h′ (without i l)
-    removed i k = sound-of rules (every-without (sharedStateValid h′) l i (stayed h h′ l s stay)) (omega (arith, s .room, length-without l i k))
+    removed i k =
+        sound-of rules (every-without (sharedStateValid h′) l i (stayed h h′ l s stay))
+        (omega (arith, s .room, length-without l i k))
 
   -- Keep, where nobody was past the first check
   pub kept-quiet : ((b : ℕ) → b < buckets → T (passing h b) → ⊥) → Counts (h′ .«ref_counts») (refsOf h′ l) → Sound h′ l

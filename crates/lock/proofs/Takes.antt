@@ -3,22 +3,20 @@
 -- there are four counts, and that a loader's bucket is one of them. Assumes nothing.
 use Prim.Native.Nat.{ℕ, _+_, _-_, _<_}
 use mathlib.Core.Path.{_≡_, refl, sym, ap, _∙_}
-use mathlib.Core.Logic.{inl, inr, _≢_}
-use mathlib.Core.Bool.{true, false}
-use mathlib.Core.List.{List}
+use mathlib.Core.Bool.{Bool, true, false, cond}
+use mathlib.Core.List.{List, [], _∷_, _++_}
 use native.Mathlib.Omega.{arith}
-use lib.Dec.{T, ltb→lt}
+use lib.Dec.{T, eqb, ltb→lt}
 use lib.ListN.{length}
 use lib.Seq.{set-append-seam}
 use borrow.Author.Tests.{lt-ltb, lt-leb, eq-eqb}
 use Rattle.kinds.specs.Limits.{buckets, ceiling, capacity}
-use Rattle.kinds.specs.Flags.{writebackDone, notLoading}
 use Rattle.kinds.specs.declared.Bucket.{Bucket}
 use Rattle.kinds.specs.declared.MaybeBucket.{MaybeBucket}
-use Rattle.kinds.specs.declared.Flag.{Flag}
 use Rattle.kinds.specs.declared.Storage.{Storage}
 use Rattle.kinds.specs.declared.Reader.{Reader}
 use Rattle.kinds.specs.declared.LoadingState.{LoadingState}
+use Rattle.readers.specs.Listed.{findIn}
 use Rattle.readers.proofs.Lists.{without-split}
 use Rattle.page_record.specs.declared.Head.{Head}
 use Rattle.page_record.specs.Holders.{isLoaded}
@@ -29,10 +27,11 @@ use Rattle.steps.specs.declared.Request.{Request}
 use Rattle.steps.specs.declared.Decision.{Decision}
 use Rattle.steps.specs.Premises.{decided}
 use Rattle.steps.specs.Setters.{withNumber, raise, lower}
+use Rattle.steps.specs.Steps.{sharedDecCount}
 use Rattle.lock.specs.Step.{edited, lookFor, decidedOn}
-use Rattle.lock.specs.Moves
-use Rattle.lock.specs.Moves.{stateWith, countOf, Elsewhere, Room, answerOf, obtained, pending, pending2}
-use Rattle.lock.proofs.MoveLaws.{Accepts, stepNo, by-number, is-open, is-expected, find-first, is-set}
+use Rattle.lock.specs.Moves.{Moves, Field, stateWith, countOf, Elsewhere, Absent, Only, Room, answerOf, obtained, pending, pending2}
+use Rattle.lock.proofs.MoveLaws.{Accepts, stepNo, by-number, is-expected, find-first, is-set}
+use Rattle.lock.proofs.MoveFlags.{is-released, is-claimed, is-awaited, done, lock-flag, is-open, unloaded}
 use Rattle.lock.proofs.MoveFacts.{granted}
 
 -- ---- a decision's parts, one by one
@@ -54,32 +53,10 @@ took p = record {
   list = p .list;
 }
 
--- ---- the flags of steps 6 and 24
-done : (f : Flag) → f ≢ Flag.Writeback → f ≢ Flag.WritebackAndPendingExcLock → writebackDone f ≡ true
-done Flag.Unmapped a b = refl
-done Flag.Loading a b = refl
-done Flag.LoadingExcLock a b = refl
-done Flag.Available a b = refl
-done Flag.Claimed a b = refl
-done Flag.Writeback a b = absurd (a refl)
-done Flag.WritebackAndClaimed a b = refl
-done Flag.WritebackAndPendingExcLock a b = absurd (b refl)
-done Flag.PendingExcLock a b = refl
-done Flag.ExcLockClean a b = refl
-done Flag.ExcLockDirty a b = refl
-
-unloaded : (f : Flag) → f ≢ Flag.Loading → notLoading f ≡ true
-unloaded Flag.Unmapped a = refl
-unloaded Flag.Loading a = absurd (a refl)
-unloaded Flag.LoadingExcLock a = refl
-unloaded Flag.Available a = refl
-unloaded Flag.Claimed a = refl
-unloaded Flag.Writeback a = refl
-unloaded Flag.WritebackAndClaimed a = refl
-unloaded Flag.WritebackAndPendingExcLock a = refl
-unloaded Flag.PendingExcLock a = refl
-unloaded Flag.ExcLockClean a = refl
-unloaded Flag.ExcLockDirty a = refl
+-- step 6's clean, read back from its number
+is-clean : (clean : Bool) → eqb (cond clean 1 0) 1 ≡ clean
+is-clean true = refl
+is-clean false = refl
 
 -- ---- the transitions
 module _ (h : Head) (l : List Reader) (q : Request) (h′ : Head) (l′ : List Reader) (out : Storage) (s : Sound h l) where
@@ -107,38 +84,42 @@ module _ (h : Head) (l : List Reader) (q : Request) (h′ : Head) (l′ : List R
       let t : T (isLoaded (h .«loading_state»)) = rw e tt in
       ltb→lt (b .0) buckets (rw e at (granted h (s .head) .loaded t .1))
 
-  pub takes : Moves.Moves (stateWith h l) q (stateWith h′ l′) out → Room (stateWith h l) q → Accepts (decidedOn h l q) l h′ l′ out
+  -- 20 to 22: the reader x leaves
+  leaves : (x : Reader) (n : ℕ) (before after : List Reader)
+      → q .bucket .0 < buckets → countOf (stateWith h l) (q .bucket) ≡ n → l ≡ before ++ x ∷ after → Absent x before
+      → l′ ≡ before ++ after → countOf (stateWith h′ l′) (q .bucket) ≡ n - 1
+      → Elsewhere (stateWith h l) (stateWith h′ l′) (q .bucket)
+      → Only (Field.ref-counts ∷ Field.shared-state ∷ []) (stateWith h l) (stateWith h′ l′) out
+      → Accepts (decided h (sharedDecCount h q (findIn l x))) l h′ l′ out
+  leaves x n before after below was remove first removed is elsewhere only =
+      let list = without-split before x after ∙ sym removed in
+      let counts = one-less (q .bucket) below elsewhere n was is in
+      rw (remove, find-first x before after first) (took (search))
+
+  pub takes : Moves (stateWith h l) q (stateWith h′ l′) out → Room (stateWith h l) q → Accepts (decidedOn h l q) l h′ l′ out
   unfolding lookFor
   takes (Moves.take-writeback value step require update bird add only) room =
       step-is 1 step (rw (require, bird) (took (search)))
-  takes (Moves.release-writeback any step remove (inl m) only) room =
-      step-is 2 step (rw (remove .0, m .0) (took (search)))
-  takes (Moves.release-writeback any step remove (inr (inl m)) only) room =
-      step-is 2 step (rw (remove .0, m .0) (took (search)))
-  takes (Moves.release-writeback any step remove (inr (inr m)) only) room =
-      step-is 2 step (rw (remove .0, m .0) (took (search)))
-  takes (Moves.bucketless-claim value step (inl m) bird add only) room =
-      step-is 3 step (rw (m .0, bird) (took (search)))
-  takes (Moves.bucketless-claim value step (inr m) bird add only) room =
-      step-is 3 step (rw (m .0, bird) (took (search)))
-  takes (Moves.shared-to-claim reader before after step is remove first removed (inl m) add only) room =
+  takes (Moves.release-writeback any step remove arms only) room =
+      let flag = is-released (h .flag) (h′ .flag) arms in
+      step-is 2 step (rw (remove .0) (took (search)))
+  takes (Moves.bucketless-claim value step arms bird add only) room =
+      let k = is-claimed (h .flag) (h′ .flag) arms in
+      let flag = k .1 in
+      step-is 3 step (rw (k .0, bird) (took (search)))
+  takes (Moves.shared-to-claim reader before after step is remove first removed arms add only) room =
       let x = obtained (q .bucket) (q .value) in
+      let k = is-claimed (h .flag) (h′ .flag) arms in
+      let flag = k .1 in
       let exc = sym (add .1) in
       let list = without-split before x after ∙ sym removed in
-      step-is 4 step (rw (remove, is, find-first x before after (rw is at first), m .0) (took (search)))
-  takes (Moves.shared-to-claim reader before after step is remove first removed (inr m) add only) room =
-      let x = obtained (q .bucket) (q .value) in
-      let exc = sym (add .1) in
-      let list = without-split before x after ∙ sym removed in
-      step-is 4 step (rw (remove, is, find-first x before after (rw is at first), m .0) (took (search)))
-  takes (Moves.claim-to-pending bucket value step remove add (inl m) only) room =
-      step-is 5 step (rw (remove, m .0) (took (search)))
-  takes (Moves.claim-to-pending bucket value step remove add (inr m) only) room =
-      step-is 5 step (rw (remove, m .0) (took (search)))
-  takes (Moves.take-exc-lock-finish-writeback true bucket value step named require remove add update only) room =
-      step-is 6 step (rw (done (h .flag) (require .0) (require .1), remove, named) (took (search)))
-  takes (Moves.take-exc-lock-finish-writeback false bucket value step named require remove add update only) room =
-      step-is 6 step (rw (done (h .flag) (require .0) (require .1), remove, named) (took (search)))
+      step-is 4 step (rw (remove, is, find-first x before after (rw is at first), k .0) (took (search)))
+  takes (Moves.claim-to-pending bucket value step remove add arms only) room =
+      let flag = is-awaited (h .flag) (h′ .flag) arms in
+      step-is 5 step (rw remove (took (search)))
+  takes (Moves.take-exc-lock-finish-writeback clean bucket value step named require remove add update only) room =
+      let flag = lock-flag clean ∙ sym update in
+      step-is 6 step (rw (done (h .flag) (require .0) (require .1), remove, named, is-clean clean) (took (search)))
   takes (Moves.take-exc-lock-check-ref-count bucket visited clean value rc step remove require add expect have only) room =
       let found = have ∙ sym (is-expected bucket (visited .0) rc expect) in
       step-is 7 step (rw (remove, lt-ltb (visited .0) buckets require, eq-eqb _ _ found) (took (search)))
@@ -178,20 +159,11 @@ module _ (h : Head) (l : List Reader) (q : Request) (h′ : Head) (l′ : List R
       let counts = one-more (q .bucket) below elsewhere n was is in
       step-is 19 step (rw (lt-ltb _ ceiling under, lt-leb capacity (length l) free) (took (search)))
   takes (Moves.shared-dec-count-pending n before after step below was remove first removed as-nat is elsewhere only) room =
-      let x = pending (q .bucket) in
-      let list = without-split before x after ∙ sym removed in
-      let counts = one-less (q .bucket) below elsewhere n was is in
-      step-is 20 step (rw (remove, find-first x before after first) (took (search)))
+      step-is 20 step (leaves (pending (q .bucket)) n before after below was remove first removed is elsewhere only)
   takes (Moves.shared-dec-count-pending2 n before after step below was remove first removed as-nat is elsewhere only) room =
-      let x = pending2 (q .bucket) in
-      let list = without-split before x after ∙ sym removed in
-      let counts = one-less (q .bucket) below elsewhere n was is in
-      step-is 21 step (rw (remove, find-first x before after first) (took (search)))
+      step-is 21 step (leaves (pending2 (q .bucket)) n before after below was remove first removed is elsewhere only)
   takes (Moves.shared-dec-count-obtained n before after step below was remove first removed as-nat is elsewhere only) room =
-      let x = obtained (q .bucket) (q .value) in
-      let list = without-split before x after ∙ sym removed in
-      let counts = one-less (q .bucket) below elsewhere n was is in
-      step-is 22 step (rw (remove, find-first x before after first) (took (search)))
+      step-is 22 step (leaves (obtained (q .bucket) (q .value)) n before after below was remove first removed is elsewhere only)
   takes (Moves.shared-check-exc before after step require remove first add only) room =
       let x = pending (q .bucket) in
       let list = set-append-seam before x after (pending2 (q .bucket)) ∙ sym add in

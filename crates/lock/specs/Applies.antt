@@ -1,6 +1,6 @@
 -- When each of document 01's numbers 1 to 11 applies to a request on a page, by its table of replies and its table of steps,
--- in words of their own: no premise list and no order stands here. The answer is the lowest number that applies
--- (proofs/Least.antt), and none is given otherwise.
+-- in words of their own: no premise list and no order stands here. The answer is the lowest number that applies, and none is
+-- given otherwise (`least-number`, `number-first` and `number-none` in proofs/Least.antt).
 use Prim.Native.Nat.{ℕ}
 use mathlib.Core.Bool.{Bool, true, false, not, cond, _&&_, _||_}
 use mathlib.Core.List.{List, [], _∷_, map}
@@ -21,6 +21,7 @@ use Rattle.page_record.specs.Pages.{numberAt}
 use Rattle.page_record.specs.References.{refAt}
 use Rattle.page_record.specs.Rules.{soundOf}
 use Rattle.steps.specs.declared.Request.{Request}
+use Rattle.steps.specs.Requests.{lastStep}
 use Rattle.lock.specs.Words.{among, raising, listing}
 
 -- ---- words
@@ -78,7 +79,7 @@ applies1 p = not (soundOf p)
 
 -- 2: the step is not 1 to 24
 abbrev pub applies2 : Request → Bool
-applies2 q = eqb (q .step) 0 || ltb 24 (q .step)
+applies2 q = eqb (q .step) 0 || ltb lastStep (q .step)
 
 -- 3: a field not taken is not zero, or clean is above 1
 abbrev pub applies3 : Request → Bool
@@ -89,7 +90,7 @@ applies3 q =
 
 -- 4: the bucket is taken and above 3
 abbrev pub applies4 : Request → Bool
-applies4 q = bucketTaken (q .step) && ltb 3 (q .bucket .0)
+applies4 q = bucketTaken (q .step) && not (ltb (q .bucket .0) buckets)
 
 -- 5: a flag premise fails
 abbrev pub applies5 : Page → Request → Bool
@@ -153,6 +154,6 @@ applying p q =
     ∷ applies11 p q
     ∷ []
 
--- the number n, 1 to 11, applies
+-- the number n, 1 to 11, applies; any other n does not
 abbrev pub applies : ℕ → Page → Request → Bool
 applies n p q = getD (false ∷ applying p q) n false

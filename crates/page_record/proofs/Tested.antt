@@ -17,7 +17,7 @@ use Rattle.readers.specs.Lists.{every}
 use Rattle.readers.specs.Listed.{live, listed}
 use Rattle.readers.proofs.Tests.{is-true, both, halves, and-iff}
 use Rattle.readers.proofs.Lists.{every-mono, every-at}
-pub use Rattle.readers.proofs.Lists.{every-default}
+use Rattle.readers.proofs.Lists.{every-default}
 use Rattle.readers.proofs.Bridge.{live-listed, length-listed, blank-listed, length-live, listed-live}
 use Rattle.page_record.specs.declared.Head.{Head}
 use Rattle.page_record.specs.declared.Page.{Page}

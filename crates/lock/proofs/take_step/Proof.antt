@@ -12,4 +12,15 @@ take-step-spec =
     (λ c κs. tt)
     (λ c κs. tt)
     (λ c κs. tt)
-    (λ c. simp (c .page-of .ensures, c .before .edited .ensures, c .before .before .before .decide .ensures, c .before .before .before .before .head-of .ensures, c .before .before .before .before .before .look-for .ensures, c .before .before .before .before .before .before .sought-by .ensures)))
+    (λ c.
+    let decided = c .before .before .before in
+    let headed = decided .before in
+    let looked = headed .before in
+    simp (
+      c .page-of .ensures,
+      c .before .edited .ensures,
+      decided .decide .ensures,
+      headed .head-of .ensures,
+      looked .look-for .ensures,
+      looked .before .sought-by .ensures,
+    )))
