@@ -64,7 +64,8 @@ demand1-write q buffer = record {
 
 -- ---- one line of a run
 -- a turn that is refused leaves the page, whether the reader or the step refused it
-pub refused-turn : (p : Page) (bytes : List ℕ) (why : Refusal) → turnOf p bytes .answer ≡ Answer.Refused why → turnOf p bytes .page ≡ p
+pub refused-turn : (p : Page) (bytes : List ℕ) (why : Refusal) → turnOf p bytes .answer ≡ Answer.Refused why
+    → turnOf p bytes .page ≡ p
 refused-turn p bytes why refused = go (readOf bytes) refl
   where
     go : (r : Reading) → readOf bytes ≡ r → turnOf p bytes .page ≡ p
@@ -103,7 +104,8 @@ module _ (p : Page) (l : List ℕ) (sound : soundOf p ≡ true) (sixteen : lengt
   unfolding turnOf judged
   line-number = go (blank (part zerosAt valueAt l)) refl
     where
-      go : (zeros : Bool) → blank (part zerosAt valueAt l) ≡ zeros → answerNumber (turnOf p l .answer) ≡ firstBroken 1 (map not (applyingLine p l))
+      go : (zeros : Bool) → blank (part zerosAt valueAt l) ≡ zeros → answerNumber (turnOf p l .answer)
+          ≡ firstBroken 1 (map not (applyingLine p l))
       go true z =
           let read = ap (onReading p) (sym (read-fields l sixteen z)) ∙ as-step (judged q) refl in
           ap (λ (o : Outcome). answerNumber (o .answer)) read ∙ least-number p q ∙ rw (z, or-no (applies3 q))

@@ -28,12 +28,13 @@ use Rattle.page_record.proofs.Tested.{facts}
 use Rattle.steps.specs.declared.Request.{Request}
 use Rattle.demands.specs.History.{Event, after, history, lastPut, lastWithdrew}
 use Rattle.demands.specs.Demand3.{Listed, Demand3}
-use Rattle.demands.proofs.Told.{Told, put-in, tells, fresh-told}
+use Rattle.demands.proofs.Told.{ToldOf, put-in, tells, fresh-told}
 use Rattle.demands.proofs.Kept.{sound-after}
 
 -- ---- what a sound head says of values, by its shape
 record Values (h : Head) : Type 0 where
-  claimant : T (isClaim (h .«exc_state») || isAwait (h .«exc_state») || isPending (h .«exc_state»)) → h .storage ≡ Storage.In (excValue (h .«exc_state»))
+  claimant : T (isClaim (h .«exc_state») || isAwait (h .«exc_state») || isPending (h .«exc_state»)) → h .storage
+      ≡ Storage.In (excValue (h .«exc_state»))
   archive : (v : ℕ) → h .«writeback_state» ≡ WritebackState.Held v → h .storage ≡ Storage.In v
 
 clash : {A : Type 0} (v : ℕ) → WritebackState.None ≡ WritebackState.Held v → A
@@ -63,7 +64,7 @@ first-is Phase.Pending2 t = absurd t
 first-is (Phase.Obtained v) t = absurd t
 
 -- ---- the demand, from soundness and what is told
-module _ (fresh : ℕ) (p : Page) (past : List Event) (s : Sound (headOf p) (live (p .readers))) (told : Told fresh (headOf p) past) where
+module _ (fresh : ℕ) (p : Page) (past : List Event) (s : Sound (headOf p) (live (p .readers))) (told : ToldOf fresh (headOf p) past) where
   abbrev h : Head
   h = headOf p
 
@@ -96,7 +97,9 @@ module _ (fresh : ℕ) (p : Page) (past : List Event) (s : Sound (headOf p) (liv
   shut : (r : Reader) → Listed p r → T (isEditing (p .«exc_state»)) → T (readerPending r)
   shut r at t =
       let l = live (p .readers) in
-      rw (at .stands) at (every-at readerPending l (at .place) blankReader (closed-pending s (or-left (isEditing (p .«exc_state»)) (isPending (p .«exc_state») && eqb (excVisited (p .«exc_state») .0) buckets) t)) (at .below))
+      let e = p .«exc_state» in
+      let closed = or-left (isEditing e) (isPending e && eqb (excVisited e .0) buckets) t in
+      rw (at .stands) at (every-at readerPending l (at .place) blankReader (closed-pending s closed) (at .below))
 
   pub demanded : Demand3 fresh p past
   demanded = record {

@@ -24,7 +24,7 @@ use Rattle.replay.proofs.Pages.{turn-read, turn-refused}
 use Rattle.replay.proofs.Lines.{answers-are}
 use Rattle.demands.specs.History.{Event, lineEvent, runHistory, Given, afterRuns, added, runsHistory, answerLines}
 use Rattle.demands.specs.Demand3.{Demand3}
-use Rattle.demands.proofs.Told.{Told, refused-tells, step-tells, fresh-told}
+use Rattle.demands.proofs.Told.{ToldOf, refused-tells, step-tells, fresh-told}
 use Rattle.demands.proofs.Demand3.{demanded}
 use Rattle.demands.proofs.Kept.{turn-keeps, run-keeps}
 
@@ -35,25 +35,28 @@ unfolding readOf
 read-fields bytes q e = read-passed (fieldsOf bytes) q (verdict (readable bytes)) e .1
 
 module _ (p : Page) (bytes : List ℕ) where
-  turn-tells : (fresh : ℕ) (past : List Event) → T (soundOf p) → Told fresh (headOf p) past
-      → Told fresh (headOf (turnOf p bytes .page)) (lineEvent p bytes ∷ past)
+  turn-tells : (fresh : ℕ) (past : List Event) → T (soundOf p) → ToldOf fresh (headOf p) past
+      → ToldOf fresh (headOf (turnOf p bytes .page)) (lineEvent p bytes ∷ past)
   turn-tells fresh past sound told = go (readOf bytes) refl
     where
-      go : (r : Reading) → readOf bytes ≡ r → Told fresh (headOf (turnOf p bytes .page)) (lineEvent p bytes ∷ past)
+      go : (r : Reading) → readOf bytes ≡ r → ToldOf fresh (headOf (turnOf p bytes .page)) (lineEvent p bytes ∷ past)
       go (Reading.Request q) e = rw (turn-read p bytes q e, read-fields bytes q e) (step-tells fresh p q past sound told)
       go (Reading.Refused why) e = rw (turn-refused p bytes why e) (refused-tells fresh (headOf p) past (fieldsOf bytes) why told)
 
 -- ---- all lines
-run-tells : (fresh : ℕ) (p : Page) (past : List Event) (rs : List (List ℕ)) → T (soundOf p) → Told fresh (headOf p) past
-    → Told fresh (headOf (pageAfter p rs)) (runHistory p rs past)
+run-tells : (fresh : ℕ) (p : Page) (past : List Event) (rs : List (List ℕ)) → T (soundOf p) → ToldOf fresh (headOf p) past
+    → ToldOf fresh (headOf (pageAfter p rs)) (runHistory p rs past)
 run-tells fresh p past [] sound told = told
 run-tells fresh p past (r ∷ rs) sound told =
     run-tells fresh (turnOf p r .page) (lineEvent p r ∷ past) rs (turn-keeps p r sound) (turn-tells p r fresh past sound told)
 
 -- the history's lines are the run's
-lines-from : (p : Page) (rs : List (List ℕ)) (past : List Event) → answerLines (runHistory p rs past) ≡ answerLines past ++ linesOf p rs
+lines-from : (p : Page) (rs : List (List ℕ)) (past : List Event) → answerLines (runHistory p rs past)
+    ≡ answerLines past ++ linesOf p rs
 lines-from p [] past = sym (append-nil (answerLines past))
-lines-from p (r ∷ rs) past = lines-from (turnOf p r .page) rs (lineEvent p r ∷ past) ∙ append-assoc (answerLines past) (lineOf (turnOf p r .answer)) (linesOf (turnOf p r .page) rs)
+lines-from p (r ∷ rs) past =
+    let next = turnOf p r .page in
+    lines-from next rs (lineEvent p r ∷ past) ∙ append-assoc (answerLines past) (lineOf (turnOf p r .answer)) (linesOf next rs)
 
 -- ---- a run
 -- the answers of an accepted run are the lines of the events that it adds, and what stood past them
@@ -69,12 +72,13 @@ module _ (fresh : ℕ) (p : Page) (past : List Event) (requests : List ℕ) wher
   ended-sound sound Verdict.Passed = run-keeps p (requestsOf requests) sound
   ended-sound sound (Verdict.Failed why) = sound
 
-  ended-told : T (soundOf p) → Told fresh (headOf p) past → (v : Verdict) → Told fresh (headOf (ends p requests v .page)) (added p requests past v)
+  ended-told : T (soundOf p) → ToldOf fresh (headOf p) past → (v : Verdict)
+      → ToldOf fresh (headOf (ends p requests v .page)) (added p requests past v)
   ended-told sound told Verdict.Passed = run-tells fresh p past (requestsOf requests) sound told
   ended-told sound told (Verdict.Failed why) = told
 
 -- ---- run after run
-runs-demanded : (fresh : ℕ) (p : Page) (past : List Event) (gs : List Given) → T (soundOf p) → Told fresh (headOf p) past
+runs-demanded : (fresh : ℕ) (p : Page) (past : List Event) (gs : List Given) → T (soundOf p) → ToldOf fresh (headOf p) past
     → Demand3 fresh (afterRuns p gs) (runsHistory p gs past)
 unfolding ranOf
 runs-demanded fresh p past [] sound told = demanded fresh p past (facts p sound .parts) told
@@ -84,5 +88,6 @@ runs-demanded fresh p past (g ∷ gs) sound told =
     (ended-sound fresh p past (g .requests) sound v) (ended-told fresh p past (g .requests) sound told v)
 
 -- from a fresh page, after any runs, refused ones among them
-pub demand3-runs : (fresh : ℕ) (gs : List Given) → Demand3 fresh (afterRuns (freshPage fresh) gs) (runsHistory (freshPage fresh) gs [])
+pub demand3-runs : (fresh : ℕ) (gs : List Given)
+    → Demand3 fresh (afterRuns (freshPage fresh) gs) (runsHistory (freshPage fresh) gs [])
 demand3-runs fresh gs = runs-demanded fresh (freshPage fresh) [] gs (fresh-sound fresh) (fresh-told fresh)

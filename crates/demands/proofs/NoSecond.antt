@@ -29,6 +29,7 @@ use Rattle.page_record.specs.declared.Page.{Page}
 use Rattle.page_record.proofs.fresh.Reads as fresh-contract
 use Rattle.page_record.proofs.head_of.Reads as head-of-contract
 use Rattle.page_record.proofs.page_of.Reads as page-of-contract
+use Rattle.page_record.proofs.ref_at.Reads as ref-at-contract
 use Rattle.page_record.proofs.broken_rule.Reads as broken-rule-contract
 use Rattle.page_record.proofs.is_sound.Reads as is-sound-contract
 use Rattle.page_record.proofs.sound.Reads as sound-contract
@@ -67,7 +68,8 @@ Only {K} {I} {R} {O} Post = (κ : K) (i : I) (o o′ : O) (x y : R) → Post κ 
 
 -- at most one result, and one content of what is lent, at exit
 abbrev pub OnlyWith : {K I R O B : Type 0} → (O → B) → Contract K I R O → Type 0
-OnlyWith {K} {I} {R} {O} lent Post = (κ : K) (i : I) (o o′ : O) (x y : R) → Post κ i x o → Post κ i y o′ → (x ≡ y) × (lent o ≡ lent o′)
+OnlyWith {K} {I} {R} {O} lent Post = (κ : K) (i : I) (o o′ : O) (x y : R) → Post κ i x o → Post κ i y o′
+    → (x ≡ y) × (lent o ≡ lent o′)
 
 -- ---- the two laws
 -- an equation
@@ -156,6 +158,9 @@ head-of = equation _
 
 pub page-of : Only page-of-contract.Post
 page-of = equation _
+
+pub ref-at : Only ref-at-contract.Post
+ref-at = equation _
 
 pub broken-rule : Only broken-rule-contract.Post
 broken-rule = equation _

@@ -3,13 +3,14 @@
 -- Assumes nothing.
 use Prim.Native.Nat.{ℕ, zero, suc, _+_, _≤_, _<_}
 use mathlib.Core.Path.{_≡_, refl, sym, _∙_}
-use mathlib.Core.Bool.{Bool, true, false, cond}
+use mathlib.Core.Bool.{Bool, true, false, not, cond, _&&_}
 use mathlib.Core.List.{List, [], _∷_}
 use native.Mathlib.Omega.{arith}
 use borrow.Author.Tests.{eq-eqb}
 use lib.Dec.{T, eqb, leb, ltb→lt}
 use lib.ListN.{length, replicate}
 use Rattle.kinds.specs.declared.Bucket.{Bucket}
+use Rattle.kinds.specs.declared.Count.{Count}
 use Rattle.kinds.specs.declared.Storage.{Storage}
 use Rattle.kinds.specs.declared.MaybeBucket.{MaybeBucket}
 use Rattle.kinds.specs.declared.Reader.{Reader}
@@ -17,7 +18,7 @@ use Rattle.kinds.specs.declared.Phase.{Phase}
 use Rattle.kinds.specs.Limits.{buckets, capacity}
 use Rattle.readers.specs.declared.Found.{Found}
 use Rattle.readers.specs.Listed.{live, findIn}
-use Rattle.readers.proofs.Tests.{to-true}
+use Rattle.readers.proofs.Tests.{to-true, to-false, and-iff}
 use Rattle.readers.proofs.First.{found}
 use Rattle.page_record.specs.declared.Head.{Head}
 use Rattle.page_record.specs.declared.Page.{Page}
@@ -39,25 +40,32 @@ use Rattle.steps.specs.Decide.{stepAt, soughtOf, decideOf}
 use Rattle.steps.specs.Steps.{isFound, reader}
 use Rattle.steps.proofs.Verdicts.{passed}
 use Rattle.steps.proofs.Reasons.{refusal-positive}
+use Rattle.lock.specs.Words.{among, raising, leaving, puttingIn, handingOut}
 use Rattle.lock.specs.Step.{lookFor, stepped, stepOf}
 use Rattle.lock.proofs.Counts.{number-raise, number-lower}
 use Rattle.lock.proofs.MoveFacts.{granted}
 use Rattle.lock.proofs.Pick.{Below, _&_, pick}
+use Rattle.lock.proofs.Cells.{pastLast}
 use Rattle.lock.proofs.Passes.{judged-bucket}
 use Rattle.lock.proofs.Least.{step-below}
 use Rattle.lock.proofs.Keeps.{step-keeps}
 use Rattle.demands.specs.History.{Event, event, after, history, arrivals, departures, lastPut, lastWithdrew, lastCounted, HandedOut}
 
 -- ---- what is told
-pub record Told (fresh : ℕ) (h : Head) (past : List Event) : Type 0 where
-  pub balance : (b : ℕ) → numberAt (h .«ref_counts») b + departures b past ≡ arrivals b past
-  pub stored : h .storage ≡ cond (lastWithdrew past) Storage.Out (Storage.In (lastPut fresh past))
-  pub counted : T (hasBucket (loadingBucket (h .«loading_state»))) → lastCounted past ≡ loadingBucket (h .«loading_state»)
+-- of the counts, of storage and of the loader's bucket
+pub record Told (fresh : ℕ) (cs : List Count) (s : Storage) (loader : MaybeBucket) (past : List Event) : Type 0 where
+  pub balance : (b : ℕ) → numberAt cs b + departures b past ≡ arrivals b past
+  pub stored : s ≡ cond (lastWithdrew past) Storage.Out (Storage.In (lastPut fresh past))
+  pub counted : T (hasBucket loader) → lastCounted past ≡ loader
   pub handed : HandedOut fresh past
 
+abbrev pub ToldOf : ℕ → Head → List Event → Type 0
+ToldOf fresh h past = Told fresh (h .«ref_counts») (h .storage) (loadingBucket (h .«loading_state»)) past
+
 -- what is stored was last put in
-pub put-in : (fresh : ℕ) (s : Storage) (past : List Event) → s ≡ cond (lastWithdrew past) Storage.Out (Storage.In (lastPut fresh past))
-    → (v : ℕ) → s ≡ Storage.In v → v ≡ lastPut fresh past
+pub put-in : (fresh : ℕ) (s : Storage) (past : List Event)
+    → s ≡ cond (lastWithdrew past) Storage.Out (Storage.In (lastPut fresh past)) → (v : ℕ) → s ≡ Storage.In v → v
+    ≡ lastPut fresh past
 put-in fresh s past told v e = go (lastWithdrew past) (sym e ∙ told)
   where
     go : (t : Bool) → Storage.In v ≡ cond t Storage.Out (Storage.In (lastPut fresh past)) → v ≡ lastPut fresh past
@@ -65,7 +73,18 @@ put-in fresh s past told v e = go (lastWithdrew past) (sym e ∙ told)
     go false f = cc
 
 -- ---- each step
-module _ (fresh : ℕ) (h : Head) (l : List Reader) (b : Bucket) (clean value : ℕ) (full : Bool) (past : List Event) (s : Sound h l) (inside : b .0 < buckets) (told : Told fresh h past) where
+-- a number that none of the history's words names
+abbrev unnamed : ℕ → Bool
+unnamed n =
+    not (among raising n)
+    && not (among leaving n)
+    && not (among (17 ∷ []) n)
+    && not (among (13 ∷ []) n)
+    && not (among puttingIn n)
+    && not (among handingOut n)
+
+module _ (fresh : ℕ) (h : Head) (l : List Reader) (b : Bucket) (clean value : ℕ) (full : Bool) (past : List Event)
+    (s : Sound h l) (inside : b .0 < buckets) (told : ToldOf fresh h past) where
   abbrev ask : ℕ → Request
   ask n = record { step = n; bucket = b; clean = clean; value = value }
 
@@ -73,15 +92,17 @@ module _ (fresh : ℕ) (h : Head) (l : List Reader) (b : Bucket) (clean value : 
   stepNo n = stepAt h (ask n) (lookFor l (soughtOf (ask n))) full
 
   abbrev Entry : ℕ → Type 0
-  Entry n = Passes (stepNo n .premises) → Told fresh (stepNo n .head) (record { request = ask n; answer = stepNo n .answer } ∷ past)
+  Entry n = Passes (stepNo n .premises) → ToldOf fresh (stepNo n .head) (record { request = ask n; answer = stepNo n .answer } ∷ past)
 
   within : b .0 < length (h .«ref_counts»)
   within = omega (arith, s .four)
 
-  raised-balance : (x : ℕ) → numberAt (raise (b .0) (h .«ref_counts»)) x + departures x past ≡ cond (eqb (b .0) x) 1 0 + arrivals x past
+  raised-balance : (x : ℕ)
+      → numberAt (raise (b .0) (h .«ref_counts»)) x + departures x past ≡ cond (eqb (b .0) x) 1 0 + arrivals x past
   raised-balance x = omega (arith, number-raise (h .«ref_counts») (b .0) x within, told .balance x)
 
-  lowered-balance : 1 ≤ numberAt (h .«ref_counts») (b .0) → (x : ℕ) → numberAt (lower (b .0) (h .«ref_counts»)) x + (cond (eqb (b .0) x) 1 0 + departures x past) ≡ arrivals x past
+  lowered-balance : 1 ≤ numberAt (h .«ref_counts») (b .0) → (x : ℕ)
+      → numberAt (lower (b .0) (h .«ref_counts»)) x + (cond (eqb (b .0) x) 1 0 + departures x past) ≡ arrivals x past
   lowered-balance k x = omega (arith, number-lower (h .«ref_counts») (b .0) x within k, told .balance x)
 
   -- a reader that is found is counted
@@ -105,29 +126,30 @@ module _ (fresh : ℕ) (h : Head) (l : List Reader) (b : Bucket) (clean value : 
   none-out : {A : Type 0} → (⊥ → A) × HandedOut fresh past
   none-out = (λ t. absurd t, told .handed)
 
-  told1 : Entry 1
-  told1 t = record { balance = even; stored = told .stored; counted = told .counted; handed = none-out }
-
-  told2 : Entry 2
-  told2 t = record { balance = even; stored = told .stored; counted = told .counted; handed = none-out }
-
-  told3 : Entry 3
-  told3 t = record { balance = even; stored = told .stored; counted = told .counted; handed = none-out }
-
-  told4 : Entry 4
-  told4 t = record { balance = even; stored = told .stored; counted = told .counted; handed = none-out }
-
-  told5 : Entry 5
-  told5 t = record { balance = even; stored = told .stored; counted = told .counted; handed = none-out }
-
-  told6 : Entry 6
-  told6 t = record { balance = even; stored = told .stored; counted = told .counted; handed = none-out }
-
-  told7 : Entry 7
-  told7 t = record { balance = even; stored = told .stored; counted = told .counted; handed = none-out }
+  -- a step that the history's words don't name, and that leaves the counts, storage and the loader's bucket
+  calm : (n : ℕ) → T (unnamed n) → ToldOf fresh h (record { request = ask n; answer = Answer.Accepted } ∷ past)
+  calm n t =
+      let u = simp and-iff at t in
+      let raises = to-false (among raising n) (u .0 .0 .0 .0 .0) in
+      let leaves = to-false (among leaving n) (u .0 .0 .0 .0 .1) in
+      let done = to-false (among (17 ∷ []) n) (u .0 .0 .0 .1) in
+      let counts = to-false (among (13 ∷ []) n) (u .0 .0 .1) in
+      let puts = to-false (among puttingIn n) (u .0 .1) in
+      let takes = to-false (among handingOut n) (u .1) in
+      record {
+        balance = λ x. rw (raises, leaves, done) (even x);
+        stored = rw (takes, puts) (told .stored);
+        counted = λ w. rw counts (told .counted w);
+        handed = none-out;
+      }
 
   told8 : Entry 8
-  told8 t = record { balance = even; stored = refl; counted = told .counted; handed = (λ w. was-put (excValue (h .«exc_state»)) (known s .pending-in (t .0)), told .handed) }
+  told8 t = record {
+    balance = even;
+    stored = refl;
+    counted = told .counted;
+    handed = (λ w. was-put (excValue (h .«exc_state»)) (known s .pending-in (t .0)), told .handed);
+  }
 
   told9 : Entry 9
   told9 t = record { balance = even; stored = refl; counted = told .counted; handed = none-out }
@@ -136,16 +158,28 @@ module _ (fresh : ℕ) (h : Head) (l : List Reader) (b : Bucket) (clean value : 
   told10 t = record { balance = even; stored = refl; counted = told .counted; handed = none-out }
 
   told11 : Entry 11
-  told11 t = record { balance = even; stored = refl; counted = λ w. absurd w; handed = (λ w. was-put (valueOf (h .storage)) (known s .unmapped-in (t .0)), told .handed) }
+  told11 t = record {
+    balance = even;
+    stored = refl;
+    counted = λ w. absurd w;
+    handed = (λ w. was-put (valueOf (h .storage)) (known s .unmapped-in (t .0)), told .handed);
+  }
 
   told12 : Entry 12
-  told12 t = record { balance = even; stored = refl; counted = λ w. absurd w; handed = (λ w. was-put (valueOf (h .storage)) (known s .unmapped-in (t .0)), told .handed) }
+  told12 t = record {
+    balance = even;
+    stored = refl;
+    counted = λ w. absurd w;
+    handed = (λ w. was-put (valueOf (h .storage)) (known s .unmapped-in (t .0)), told .handed);
+  }
 
   told13 : Entry 13
-  told13 t = record { balance = λ x. omega (arith, raised-balance x); stored = told .stored; counted = λ w. refl; handed = none-out }
-
-  told14 : Entry 14
-  told14 t = record { balance = even; stored = told .stored; counted = told .counted; handed = none-out }
+  told13 t = record {
+    balance = λ x. omega (arith, raised-balance x);
+    stored = told .stored;
+    counted = λ w. refl;
+    handed = none-out;
+  }
 
   told15 : Entry 15
   told15 t = record { balance = even; stored = told .stored; counted = λ w. absurd w; handed = none-out }
@@ -154,7 +188,8 @@ module _ (fresh : ℕ) (h : Head) (l : List Reader) (b : Bucket) (clean value : 
   told16 t = record { balance = even; stored = refl; counted = λ w. absurd w; handed = none-out }
 
   -- the loader's bucket is the one that the latest 13 named, and it is counted there
-  left-balance : (m : MaybeBucket) → loadingBucket (h .«loading_state») ≡ m → lastCounted past ≡ m → T (hasBucket m) → T (validBucket m) → (x : ℕ)
+  left-balance : (m : MaybeBucket) → loadingBucket (h .«loading_state») ≡ m → lastCounted past ≡ m → T (hasBucket m)
+      → T (validBucket m) → (x : ℕ)
       → numberAt (lower (bucketOf m .0) (h .«ref_counts»)) x + (refAt (lastCounted past) x + departures x past) ≡ arrivals x past
   left-balance MaybeBucket.None e f k v x = absurd k
   left-balance (MaybeBucket.At a) e f k v x =
@@ -176,40 +211,61 @@ module _ (fresh : ℕ) (h : Head) (l : List Reader) (b : Bucket) (clean value : 
       }
 
   told18 : Entry 18
-  told18 t = record { balance = λ x. omega (arith, raised-balance x); stored = told .stored; counted = told .counted; handed = none-out }
+  told18 t = record {
+    balance = λ x. omega (arith, raised-balance x);
+    stored = told .stored;
+    counted = told .counted;
+    handed = none-out;
+  }
 
   told19 : Entry 19
-  told19 t = record { balance = λ x. omega (arith, raised-balance x); stored = told .stored; counted = told .counted; handed = none-out }
+  told19 t = record {
+    balance = λ x. omega (arith, raised-balance x);
+    stored = told .stored;
+    counted = told .counted;
+    handed = none-out;
+  }
 
   told20 : Entry 20
   unfolding lookFor soughtOf
-  told20 t = record { balance = λ x. omega (arith, lowered-balance (found-counted Phase.Pending (t .0)) x); stored = told .stored; counted = told .counted; handed = none-out }
+  told20 t = record {
+    balance = λ x. omega (arith, lowered-balance (found-counted Phase.Pending (t .0)) x);
+    stored = told .stored;
+    counted = told .counted;
+    handed = none-out;
+  }
 
   told21 : Entry 21
   unfolding lookFor soughtOf
-  told21 t = record { balance = λ x. omega (arith, lowered-balance (found-counted Phase.Pending2 (t .0)) x); stored = told .stored; counted = told .counted; handed = none-out }
+  told21 t = record {
+    balance = λ x. omega (arith, lowered-balance (found-counted Phase.Pending2 (t .0)) x);
+    stored = told .stored;
+    counted = told .counted;
+    handed = none-out;
+  }
 
   told22 : Entry 22
   unfolding lookFor soughtOf
-  told22 t = record { balance = λ x. omega (arith, lowered-balance (found-counted (Phase.Obtained value) (t .0)) x); stored = told .stored; counted = told .counted; handed = none-out }
+  told22 t = record {
+    balance = λ x. omega (arith, lowered-balance (found-counted (Phase.Obtained value) (t .0)) x);
+    stored = told .stored;
+    counted = told .counted;
+    handed = none-out;
+  }
 
-  told23 : Entry 23
-  told23 t = record { balance = even; stored = told .stored; counted = told .counted; handed = none-out }
-
-  told24 : Entry 24
-  told24 t = record { balance = even; stored = told .stored; counted = told .counted; handed = none-out }
-
-  entries : Below 25 Entry
+  entries : Below pastLast Entry
   entries =
       (λ t. absurd (t .0))
-      & told1 & told2 & told3 & told4 & told5 & told6 & told7 & told8
-      & told9 & told10 & told11 & told12 & told13 & told14 & told15 & told16
-      & told17 & told18 & told19 & told20 & told21 & told22 & told23 & told24
+      & (λ t. calm 1 tt) & (λ t. calm 2 tt) & (λ t. calm 3 tt) & (λ t. calm 4 tt) & (λ t. calm 5 tt)
+      & (λ t. calm 6 tt) & (λ t. calm 7 tt) & told8
+      & told9 & told10 & told11 & told12 & told13 & (λ t. calm 14 tt) & told15 & told16
+      & told17 & told18 & told19 & told20 & told21 & told22 & (λ t. calm 23 tt) & (λ t. calm 24 tt)
       & tt
 
 -- ---- one request
 -- a refusal has a number above 0, so the history's sums do not see it
-pub refused-tells : (fresh : ℕ) (h : Head) (past : List Event) (q : Request) (why : Refusal) → Told fresh h past → Told fresh h (record { request = q; answer = Answer.Refused why } ∷ past)
+pub refused-tells : (fresh : ℕ) (h : Head) (past : List Event) (q : Request) (why : Refusal)
+    → ToldOf fresh h past → ToldOf fresh h (record { request = q; answer = Answer.Refused why } ∷ past)
 refused-tells fresh h past q why told =
     record {
       balance = λ x. rw (refusal-positive why) (omega (arith, told .balance x));
@@ -223,42 +279,43 @@ module _ (fresh : ℕ) (p : Page) (q : Request) (past : List Event) where
   st = stepAt (headOf p) q (lookFor (live (p .readers)) (soughtOf q)) (leb capacity (p .readers .len))
 
   -- a request that is judged well formed
-  decided-tells : Sound (headOf p) (live (p .readers)) → judged q ≡ Verdict.Passed → Told fresh (headOf p) past
-      → Told fresh (headOf (stepped p q Verdict.Passed .page)) (record { request = q; answer = stepped p q Verdict.Passed .answer } ∷ past)
+  decided-tells : Sound (headOf p) (live (p .readers)) → judged q ≡ Verdict.Passed → ToldOf fresh (headOf p) past
+      → ToldOf fresh (headOf (stepped p q Verdict.Passed .page)) (record { request = q; answer = stepped p q Verdict.Passed .answer } ∷ past)
   unfolding decideOf judged
   decided-tells sound formed told = go (verdict (st .premises)) refl
     where
       go : (v : Verdict) → verdict (st .premises) ≡ v
-          → Told fresh (settled (headOf p) st v .head) (record { request = q; answer = settled (headOf p) st v .answer } ∷ past)
+          → ToldOf fresh (settled (headOf p) st v .head) (record { request = q; answer = settled (headOf p) st v .answer } ∷ past)
       go Verdict.Passed f =
           let l = live (p .readers) in
           let full = leb capacity (p .readers .len) in
           let inside = judged-bucket q formed in
           let known = passed (formal q) formed .0 in
-          pick 25 (Entry fresh (headOf p) l (q .bucket) (q .clean) (q .value) full past sound inside told)
+          pick pastLast (Entry fresh (headOf p) l (q .bucket) (q .clean) (q .value) full past sound inside told)
           (entries fresh (headOf p) l (q .bucket) (q .clean) (q .value) full past sound inside told)
           (q .step) (step-below (q .step) known)
           (passed (st .premises) f)
       go (Verdict.Failed why) f = refused-tells fresh (headOf p) past q why told
 
   -- any request on a sound page
-  pub step-tells : T (soundOf p) → Told fresh (headOf p) past → Told fresh (headOf (stepOf p q .page)) (event p q ∷ past)
+  pub step-tells : T (soundOf p) → ToldOf fresh (headOf p) past → ToldOf fresh (headOf (stepOf p q .page)) (event p q ∷ past)
   unfolding stepOf
   step-tells sound told = rw (to-true (soundOf p) sound) (go (judged q) refl)
     where
-      go : (v : Verdict) → judged q ≡ v → Told fresh (headOf (stepped p q v .page)) (record { request = q; answer = stepped p q v .answer } ∷ past)
+      go : (v : Verdict) → judged q ≡ v
+          → ToldOf fresh (headOf (stepped p q v .page)) (record { request = q; answer = stepped p q v .answer } ∷ past)
       go Verdict.Passed e = decided-tells (facts p sound .parts) e told
       go (Verdict.Failed why) e = refused-tells fresh (headOf p) past q why told
 
 -- ---- any requests
-pub tells : (fresh : ℕ) (p : Page) (past : List Event) (qs : List Request) → T (soundOf p) → Told fresh (headOf p) past
-    → Told fresh (headOf (after p qs)) (history p qs past)
+pub tells : (fresh : ℕ) (p : Page) (past : List Event) (qs : List Request) → T (soundOf p) → ToldOf fresh (headOf p) past
+    → ToldOf fresh (headOf (after p qs)) (history p qs past)
 tells fresh p past [] sound told = told
 tells fresh p past (q ∷ qs) sound told =
     tells fresh (stepOf p q .page) (event p q ∷ past) qs (step-keeps p q sound) (step-tells fresh p q past sound told)
 
 -- a fresh page: nothing has happened
-pub fresh-told : (fresh : ℕ) → Told fresh (headOf (freshPage fresh)) []
+pub fresh-told : (fresh : ℕ) → ToldOf fresh (headOf (freshPage fresh)) []
 unfolding freshPage
 fresh-told fresh = record { balance = none; stored = refl; counted = λ t. absurd t; handed = tt }
   where

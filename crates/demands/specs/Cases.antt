@@ -309,10 +309,13 @@ abbrev pub everyStepTaken : Bool
 everyStepTaken = every (allAccepted (freshPage 0)) courses && every taken (upFrom 1 lastStep)
 
 -- ---- each rule is broken alone somewhere
--- a page that nobody holds, but for what is said
+-- a page of these parts, with n at bucket 0 and 0 at the others; and one that nobody holds
 abbrev pub pageOfParts : Storage → Flag → ℕ → ExcState → LoadingState → WritebackState → Readers → Page
 pageOfParts s f n e l w rs =
     pageOf (headWith s f (withNumber 0 n (freshPage 0 .«ref_counts»)) e l w) rs
+
+abbrev pub unheld : Storage → Flag → ℕ → Readers → Page
+unheld s f n rs = pageOfParts s f n ExcState.None LoadingState.None WritebackState.None rs
 
 abbrev pub oneAt : Phase → Reader
 oneAt phase = record { phase = phase; bucket = record { 0 = 0 } }
@@ -322,21 +325,21 @@ oneAt phase = record { phase = phase; bucket = record { 0 = 0 } }
 -- first check under Unmapped; an entry past the length that isn't blank
 abbrev pub brokenPages : List Page
 brokenPages =
-    pageOfParts Storage.Out Flag.Unmapped 0 ExcState.None LoadingState.None WritebackState.None noReaders
+    unheld Storage.Out Flag.Unmapped 0 noReaders
     ∷ pageOfParts (Storage.In 0) Flag.Claimed 0 (ExcState.Claim MaybeBucket.None 1) LoadingState.None WritebackState.None noReaders
     ∷ pageOfParts (Storage.In 0) Flag.Writeback 0 ExcState.None LoadingState.None (WritebackState.Held 1) noReaders
     ∷ pageOfParts Storage.Out Flag.LoadingExcLock 0 ExcState.None (LoadingState.PendingCounted MaybeBucket.None) WritebackState.None noReaders
-    ∷ pageOfParts (Storage.In 0) Flag.Unmapped 1 ExcState.None LoadingState.None WritebackState.None noReaders
+    ∷ unheld (Storage.In 0) Flag.Unmapped 1 noReaders
     ∷ pageOfParts (Storage.In 0) Flag.Available 0 (ExcState.Claim MaybeBucket.None 0) LoadingState.None WritebackState.None noReaders
-    ∷ pageOfParts (Storage.In 0) Flag.Unmapped 1 ExcState.None LoadingState.None WritebackState.None (listed (oneAt Phase.Pending2 ∷ []))
-    ∷ pageOfParts (Storage.In 0) Flag.Unmapped 0 ExcState.None LoadingState.None WritebackState.None
+    ∷ unheld (Storage.In 0) Flag.Unmapped 1 (listed (oneAt Phase.Pending2 ∷ []))
+    ∷ unheld (Storage.In 0) Flag.Unmapped 0
     (record { items = listed (oneAt Phase.Pending2 ∷ []) .items; len = 0 })
     ∷ []
 
 -- just this rule is broken
 abbrev pub breaks : ℕ → List Bool → Bool
 breaks n [] = true
-breaks n (rule ∷ rules) = Bool·beq rule (not (eqb n 1)) && breaks (n - 1) rules
+breaks n (t ∷ ts) = Bool·beq t (not (eqb n 1)) && breaks (n - 1) ts
 
 abbrev pub breakEach : ℕ → List Page → Bool
 breakEach n [] = true
@@ -345,9 +348,7 @@ breakEach n (p ∷ ps) = breaks n (rules (headOf p) (p .readers)) && eqb (lowest
 -- ---- each number is given somewhere
 -- a bucket at its ceiling, and a full list with every bucket under its ceiling; both unmapped
 abbrev pub crowded : Page
-crowded =
-    pageOfParts (Storage.In 0) Flag.Unmapped ceiling ExcState.None LoadingState.None WritebackState.None
-    (listed (replicate ceiling (oneAt Phase.Pending)))
+crowded = unheld (Storage.In 0) Flag.Unmapped ceiling (listed (replicate ceiling (oneAt Phase.Pending)))
 
 abbrev pub sixteenAt : ℕ → List Reader
 sixteenAt b = replicate 16 (record { phase = Phase.Pending; bucket = record { 0 = b } })
@@ -371,7 +372,7 @@ answered t = eqb (answerNumber (stepOf (t .page) (t .request) .answer)) (t .numb
 abbrev pub trials : List Trial
 trials =
     record { page = full; request = at 20 3; number = 0 }
-    ∷ record { page = pageOfParts Storage.Out Flag.Unmapped 0 ExcState.None LoadingState.None WritebackState.None noReaders; request = plain 0; number = 1 }
+    ∷ record { page = unheld Storage.Out Flag.Unmapped 0 noReaders; request = plain 0; number = 1 }
     ∷ record { page = freshPage 0; request = at 25 4; number = 2 }
     ∷ record { page = freshPage 0; request = at 1 1; number = 3 }
     ∷ record { page = freshPage 0; request = at 13 9; number = 4 }

@@ -5,8 +5,8 @@ use Prim.Native.Nat.{ℕ, suc, _<_, _≤_, _/_}
 use mathlib.Core.Path.{_≡_}
 use mathlib.Core.Logic.{_↔_}
 use mathlib.Core.Bool.{Bool, false, not, _||_}
-use mathlib.Core.List.{List, [], _∷_, map}
-use lib.ListN.{length, drop}
+use mathlib.Core.List.{List, map}
+use lib.ListN.{length, drop, set}
 use Rattle.kinds.specs.Limits.{recordSize}
 use Rattle.page_record.specs.declared.Page.{Page}
 use Rattle.page_record.specs.Rules.{firstBroken}
@@ -16,7 +16,7 @@ use Rattle.steps.specs.declared.Request.{Request}
 use Rattle.steps.specs.Answers.{refusalNumber, answerNumber}
 use Rattle.steps.specs.Premises.{verdict}
 use Rattle.lock.specs.Step.{stepOf}
-use Rattle.lock.specs.Applies.{applies1, applies2, applies3, applies4, applies5, applies6, applies7, applies8, applies9, applies10, applies11, applying, applies}
+use Rattle.lock.specs.Applies.{applies3, applying, applies}
 use Rattle.lock.proofs.Least.{Lowest as LowestNumber}
 use Rattle.wire.specs.declared.Reading.{Reading}
 use Rattle.wire.specs.Answers.{lineOf}
@@ -56,23 +56,12 @@ pub record Demand1Write (q : Request) (buffer : List ℕ) : Type 0 where
   pub past : drop recordSize (wroteTo q buffer) ≡ drop recordSize buffer
 
 -- ---- a run
--- the numbers that apply to sixteen bytes on a page, from 1: those that apply to their fields, and 3 also where bytes 3 to 7
--- aren't zero
+-- the numbers that apply to sixteen bytes on a page, from 1: those that apply to their fields, but 3, at place 2, also where
+-- bytes 3 to 7 aren't zero
 abbrev pub applyingLine : Page → List ℕ → List Bool
 applyingLine p l =
     let q = fieldsOf l in
-    applies1 p
-    ∷ applies2 q
-    ∷ (applies3 q || not (blank (part zerosAt valueAt l)))
-    ∷ applies4 q
-    ∷ applies5 p q
-    ∷ applies6 p q
-    ∷ applies7 p q
-    ∷ applies8 p q
-    ∷ applies9 p q
-    ∷ applies10 p q
-    ∷ applies11 p q
-    ∷ []
+    set (applying p q) 2 (applies3 q || not (blank (part zerosAt valueAt l)))
 
 -- a run of any bytes on any page into any buffer
 pub record Demand1Run (p : Page) (requests answers : List ℕ) : Type 0 where
@@ -91,11 +80,13 @@ pub record Demand1Run (p : Page) (requests answers : List ℕ) : Type 0 where
       → answerNumber (turnOf (pageAt k p requests) (recordAt k requests) .answer)
       ≡ firstBroken 1 (map not (applyingLine (pageAt k p requests) (recordAt k requests)))
   -- each request leaves its page to the next, a refused one the page that it found,
-  pub next : (k : ℕ) → k < length requests / recordSize → pageAt (suc k) p requests ≡ turnOf (pageAt k p requests) (recordAt k requests) .page
+  pub next : (k : ℕ) → k < length requests / recordSize → pageAt (suc k) p requests
+      ≡ turnOf (pageAt k p requests) (recordAt k requests) .page
   pub refused-line : (k : ℕ) → k < length requests / recordSize → (why : Refusal)
       → turnOf (pageAt k p requests) (recordAt k requests) .answer ≡ Answer.Refused why → pageAt (suc k) p requests ≡ pageAt k p requests
   -- and the run ends with the page that all of them left;
-  pub page : ranOf p requests answers .answer ≡ Answer.Accepted → ranOf p requests answers .page ≡ pageAt (length requests / recordSize) p requests
+  pub page : ranOf p requests answers .answer ≡ Answer.Accepted → ranOf p requests answers .page
+      ≡ pageAt (length requests / recordSize) p requests
   -- the bytes past the last line stay
   pub past : ranOf p requests answers .answer ≡ Answer.Accepted
       → drop (length requests) (answersOf p requests answers) ≡ drop (length requests) answers

@@ -59,4 +59,5 @@ pub record Demand2Bytes : Type 0 where
   pub agree : (l buffer : List ℕ) (q : Request) → Bytes l → length buffer ≡ recordSize
       → (readOf l ≡ Reading.Request q) ↔ (InRange q × (wroteAnswer q buffer ≡ Answer.Accepted) × (wroteTo q buffer ≡ l))
   -- what is written into a longer buffer stands in its first sixteen bytes
-  pub first : (q : Request) (buffer : List ℕ) → wroteAnswer q buffer ≡ Answer.Accepted → take recordSize (wroteTo q buffer) ≡ bytesOf q
+  pub first : (q : Request) (buffer : List ℕ) → wroteAnswer q buffer ≡ Answer.Accepted
+      → take recordSize (wroteTo q buffer) ≡ bytesOf q

@@ -28,7 +28,8 @@ pub record Demand3 (fresh : ℕ) (p : Page) (past : List Event) : Type 0 where
   -- each bucket's count is its accepted arrivals less departures ..
   pub counted : (b : ℕ) → b < buckets → numberAt (p .«ref_counts») b + departures b past ≡ arrivals b past
   -- .. and the references held there
-  pub referred : (b : ℕ) → b < buckets → numberAt (p .«ref_counts») b ≡ countAllRefs (live (p .readers)) (p .«exc_state») (p .«loading_state») b
+  pub referred : (b : ℕ) → b < buckets → numberAt (p .«ref_counts») b
+      ≡ countAllRefs (live (p .readers)) (p .«exc_state») (p .«loading_state») b
   -- the page is out exactly when its last hand-over was a withdrawal
   pub out : isStored (p .storage) ≡ not (lastWithdrew past)
   -- every value held is the one last put in, or the fresh one: by storage,
@@ -36,7 +37,8 @@ pub record Demand3 (fresh : ℕ) (p : Page) (past : List Event) : Type 0 where
   -- by a reader that has come through,
   pub read : (r : Reader) → Listed p r → (v : ℕ) → r .phase ≡ Phase.Obtained v → v ≡ lastPut fresh past
   -- by a claimant (Claim, PendingAwaitWriteback, Pending),
-  pub claimed : T (isClaim (p .«exc_state») || isAwait (p .«exc_state») || isPending (p .«exc_state»)) → excValue (p .«exc_state») ≡ lastPut fresh past
+  pub claimed : T (isClaim (p .«exc_state») || isAwait (p .«exc_state») || isPending (p .«exc_state»))
+      → excValue (p .«exc_state») ≡ lastPut fresh past
   -- by the writeback;
   pub written : (v : ℕ) → p .«writeback_state» ≡ WritebackState.Held v → v ≡ lastPut fresh past
   -- and so is every value that was returned, at its moment

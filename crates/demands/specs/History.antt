@@ -13,7 +13,7 @@ use Rattle.steps.specs.declared.Request.{Request}
 use Rattle.steps.specs.declared.Answer.{Answer}
 use Rattle.steps.specs.declared.Verdict.{Verdict}
 use Rattle.steps.specs.Answers.{answerNumber, answerValue, withdraws}
-use Rattle.lock.specs.Words.{among, raising, puttingIn, handingOut}
+use Rattle.lock.specs.Words.{among, raising, leaving, puttingIn, handingOut}
 use Rattle.lock.specs.Step.{stepOf}
 use Rattle.wire.specs.Answers.{lineOf}
 use Rattle.wire.specs.Requests.{fieldsOf}
@@ -97,7 +97,7 @@ arrivals b (e ∷ past) = cond (accepted raising e && namesBucket b e) 1 0 + arr
 abbrev pub departures : ℕ → List Event → ℕ
 departures b [] = 0
 departures b (e ∷ past) =
-    cond (accepted (20 ∷ 21 ∷ 22 ∷ []) e && namesBucket b e) 1 0
+    cond (accepted leaving e && namesBucket b e) 1 0
     + cond (accepted (17 ∷ []) e) (refAt (lastCounted past) b) 0
     + departures b past
 

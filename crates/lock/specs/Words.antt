@@ -14,6 +14,10 @@ among (x ∷ xs) n = eqb n x || among xs n
 abbrev pub raising : List ℕ
 raising = 13 ∷ 18 ∷ 19 ∷ []
 
+-- a reader leaves
+abbrev pub leaving : List ℕ
+leaving = 20 ∷ 21 ∷ 22 ∷ []
+
 -- one more reader in the list
 abbrev pub listing : List ℕ
 listing = 9 ∷ 16 ∷ 19 ∷ []

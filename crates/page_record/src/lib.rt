@@ -30,6 +30,7 @@ use kinds::Storage;
 use kinds::WritebackState;
 use readers::Readers;
 use readers::empty;
+pub use references::ref_at;
 
 // The record, field for field as in the source.
 pub struct Page {

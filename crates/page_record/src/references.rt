@@ -12,7 +12,7 @@ use readers::Readers;
 use readers::count_at;
 
 // 1 where it is just this bucket, else 0.
-fn ref_at(m: MaybeBucket, b: Bucket) -> usize
+pub fn ref_at(m: MaybeBucket, b: Bucket) -> usize
     ensures { λ r. ⌜ r ≡ refAt m (b .0) ⌝ }
 {
     match m {

@@ -84,7 +84,8 @@ module _ (x : Reader) where
   nowhere l e = none-from 0 l e
 
   -- ---- from the list to the answer
-  split-from : (n : ℕ) (before after : List Reader) → T (absent x before) → findFrom n (before ++ x ∷ after) x ≡ Found.At (n + length before)
+  split-from : (n : ℕ) (before after : List Reader) → T (absent x before) → findFrom n (before ++ x ∷ after) x
+      ≡ Found.At (n + length before)
   split-from n [] after t = simp (to-true (sameReader x x) (same-refl x), add-zero)
   split-from n (r ∷ before) after t =
       let h = halves (not (sameReader r x)) (absent x before) t in

@@ -12,7 +12,6 @@ use crate::decisions::accept;
 use crate::decisions::hand_out;
 use crate::decisions::refuse;
 use crate::setters::number_at;
-use crate::setters::ref_at;
 use crate::setters::with_exc;
 use crate::setters::with_number;
 use kinds::BUCKETS;
@@ -28,6 +27,7 @@ use kinds::Visited;
 use kinds::lock_flag;
 use kinds::writeback_done;
 use page_record::Head;
+use page_record::ref_at;
 
 // 6: the archive is done, and the editor closes the page, as clean or as dirty.
 pub fn take_exc_lock_finish_writeback(h: Head, q: Request) -> Decision
@@ -74,7 +74,7 @@ pub fn take_exc_lock_check_ref_count(h: Head) -> Decision
         return refuse(h, Refusal::WrongVisited);
     }
     let here = Bucket(visited);
-    if number_at(h, here) != ref_at(bucket, here) {
+    if number_at(h, here) as usize != ref_at(bucket, here) {
         return refuse(h, Refusal::OtherCount);
     }
     let pending = ExcState::Pending {

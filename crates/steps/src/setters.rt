@@ -3,7 +3,6 @@
 ghost use mathlib.Core.Path.{_≡_};
 ghost use Rattle.page_record.specs.Holders.{valueOf};
 ghost use Rattle.page_record.specs.Pages.{numberAt};
-ghost use Rattle.page_record.specs.References.{refAt};
 ghost use Rattle.steps.specs.Setters.{withStorage, withFlag, withCounts, withExc, withLoading, withWriteback, withNumber, lowered};
 use kinds::BUCKETS;
 use kinds::Bucket;
@@ -11,7 +10,6 @@ use kinds::Count;
 use kinds::ExcState;
 use kinds::Flag;
 use kinds::LoadingState;
-use kinds::MaybeBucket;
 use kinds::Storage;
 use kinds::WritebackState;
 use page_record::Head;
@@ -105,16 +103,6 @@ pub fn lower(h: Head, bucket: Bucket) -> Head
         with_number(h, bucket, 0)
     } else {
         with_number(h, bucket, n - 1)
-    }
-}
-
-// How many references a holder with this bucket has at another: 1 at its own, else 0.
-pub fn ref_at(own: MaybeBucket, at: Bucket) -> u8
-    ensures { λ r. ⌜ r ≡ refAt own (at .0) ⌝ }
-{
-    match own {
-        MaybeBucket::None => 0,
-        MaybeBucket::At(bucket) => { if bucket.0 == at.0 { 1 } else { 0 } }
     }
 }
 

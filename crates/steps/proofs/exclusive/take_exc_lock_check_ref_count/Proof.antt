@@ -16,6 +16,7 @@ take-exc-lock-check-ref-count-spec =
     (λ c κs. tt)
     (λ c. simp (c .refuse2 .ensures, le-ltb _ _ (c .before .if1 .taken), c .before .before .before .exc .given .1))
     (λ c κs. tt)
+    (λ c. search needs)
     (λ c κs. tt)
     (λ c κs. tt)
     (λ c.
