@@ -6,7 +6,6 @@ use mathlib.Core.Bool.{Bool, true, false, not, cond, _&&_, _||_}
 use mathlib.Core.List.{List, []}
 use native.Mathlib.Omega.{arith}
 use lib.Dec.{T, eqb}
-use Rattle.kinds.specs.declared.Count.{Count}
 use Rattle.kinds.specs.declared.Phase.{Phase}
 use Rattle.kinds.specs.declared.Reader.{Reader}
 use Rattle.kinds.specs.declared.Storage.{Storage}
@@ -17,12 +16,11 @@ use Rattle.readers.specs.Listed.{live, blankReader}
 use Rattle.readers.proofs.Lists.{every-at}
 use Rattle.page_record.specs.declared.Head.{Head}
 use Rattle.page_record.specs.declared.Page.{Page}
-use Rattle.page_record.specs.Holders.{isStored, isClaim, isAwait, isPending, isEditing, excVisited, excValue}
+use Rattle.page_record.specs.Holders.{isStored, isPending, isEditing, excVisited, excValue}
 use Rattle.page_record.specs.Pages.{headOf, freshPage}
 use Rattle.page_record.specs.Facts.{Sound}
-use Rattle.page_record.specs.Shapes.{Shape, unmapped, waiting, counted, loaded, available, claimed, writeback, writebackClaimed, writebackAwait, await, pending, editing, headAt, valid}
-use Rattle.page_record.proofs.Shapes.{by-shape, is-holding}
-use Rattle.page_record.proofs.Known.{hold-iff, valid-phase, readerPending, listed-valid, closed-pending}
+use Rattle.page_record.proofs.Shapes.{is-holding}
+use Rattle.page_record.proofs.Known.{known, hold-iff, valid-phase, readerPending, listed-valid, closed-pending}
 use Rattle.page_record.proofs.FreshPage.{fresh-sound}
 use Rattle.page_record.proofs.Tested.{facts}
 use Rattle.steps.specs.declared.Request.{Request}
@@ -31,29 +29,7 @@ use Rattle.demands.specs.Demand3.{Listed, Demand3}
 use Rattle.demands.proofs.Told.{ToldOf, put-in, tells, fresh-told}
 use Rattle.demands.proofs.Kept.{sound-after}
 
--- ---- what a sound head says of values, by its shape
-record Values (h : Head) : Type 0 where
-  claimant : T (isClaim (h .«exc_state») || isAwait (h .«exc_state») || isPending (h .«exc_state»)) → h .storage
-      ≡ Storage.In (excValue (h .«exc_state»))
-  archive : (v : ℕ) → h .«writeback_state» ≡ WritebackState.Held v → h .storage ≡ Storage.In v
-
-clash : {A : Type 0} (v : ℕ) → WritebackState.None ≡ WritebackState.Held v → A
-clash v e = absurd (let z : _≡_ {A = ℕ} 0 1 = cc in omega arith)
-
-values-at : (z : Shape) (cs : List Count) → T (valid z) → Values (headAt z cs)
-values-at (unmapped x) cs t = record { claimant = λ k. absurd k; archive = λ v. clash v }
-values-at waiting cs t = record { claimant = λ k. absurd k; archive = λ v. clash v }
-values-at (counted b) cs t = record { claimant = λ k. absurd k; archive = λ v. clash v }
-values-at (loaded m) cs t = record { claimant = λ k. absurd k; archive = λ v. clash v }
-values-at (available x) cs t = record { claimant = λ k. absurd k; archive = λ v. clash v }
-values-at (claimed m x) cs t = record { claimant = λ k. refl; archive = λ v. clash v }
-values-at (writeback x) cs t = record { claimant = λ k. absurd k; archive = λ v e. cc }
-values-at (writebackClaimed m x) cs t = record { claimant = λ k. refl; archive = λ v e. cc }
-values-at (writebackAwait m x) cs t = record { claimant = λ k. refl; archive = λ v e. cc }
-values-at (await m x) cs t = record { claimant = λ k. refl; archive = λ v. clash v }
-values-at (pending m n c x) cs t = record { claimant = λ k. refl; archive = λ v. clash v }
-values-at (editing m c) cs t = record { claimant = λ k. absurd k; archive = λ v. clash v }
-
+-- ---- what is used of tests
 or-left : (a b : Bool) → T a → T (a || b)
 or-left true b t = tt
 or-left false b t = absurd t
@@ -67,9 +43,6 @@ first-is (Phase.Obtained v) t = absurd t
 module _ (fresh : ℕ) (p : Page) (past : List Event) (s : Sound (headOf p) (live (p .readers))) (told : ToldOf fresh (headOf p) past) where
   abbrev h : Head
   h = headOf p
-
-  values : Values h
-  values = by-shape Values values-at h (s .head)
 
   was-put : (v : ℕ) → p .storage ≡ Storage.In v → v ≡ lastPut fresh past
   was-put = put-in fresh (p .storage) past (told .stored)
@@ -92,7 +65,7 @@ module _ (fresh : ℕ) (p : Page) (past : List Event) (s : Sound (headOf p) (liv
 
   idle : (w : WritebackState) → p .«writeback_state» ≡ w → p .storage ≡ Storage.Out → w ≡ WritebackState.None
   idle WritebackState.None e o = refl
-  idle (WritebackState.Held v) e o = absurd (apart v o (values .archive v e))
+  idle (WritebackState.Held v) e o = absurd (apart v o (known s .archive-in v e))
 
   shut : (r : Reader) → Listed p r → T (isEditing (p .«exc_state»)) → T (readerPending r)
   shut r at t =
@@ -108,8 +81,8 @@ module _ (fresh : ℕ) (p : Page) (past : List Event) (s : Sound (headOf p) (liv
     out = out-is;
     stored = was-put;
     read = λ r at v e. was-put v (reads r at v e);
-    claimed = λ t. was-put (excValue (p .«exc_state»)) (values .claimant t);
-    written = λ v e. was-put v (values .archive v e);
+    claimed = λ t. was-put (excValue (p .«exc_state»)) (known s .claimant-in t);
+    written = λ v e. was-put v (known s .archive-in v e);
     returned = told .handed;
     unread = λ o r at v e. apart v o (reads r at v e);
     unwritten = idle (p .«writeback_state») refl;

@@ -19,13 +19,14 @@ use Rattle.kinds.specs.declared.Phase.{Phase}
 use Rattle.kinds.specs.declared.Reader.{Reader}
 use Rattle.kinds.specs.declared.ExcState.{ExcState}
 use Rattle.kinds.specs.declared.LoadingState.{LoadingState}
+use Rattle.kinds.specs.declared.WritebackState.{WritebackState}
 use Rattle.readers.specs.Lists.{every}
 use Rattle.readers.specs.Listed.{isAt, countAt, blankReader}
 use Rattle.readers.proofs.Tests.{both, halves, and-iff}
 use Rattle.readers.proofs.Lists.{every-mono, every-at, tally-positive}
 use Rattle.readers.proofs.First.{First}
 use Rattle.page_record.specs.declared.Head.{Head}
-use Rattle.page_record.specs.Holders.{holds, valueOf, isClaim, isPending, isEditing, excBucket, excVisited, excValue, noLoad, isBefore, noWriteback}
+use Rattle.page_record.specs.Holders.{holds, valueOf, isClaim, isAwait, isPending, isEditing, excBucket, excVisited, excValue, noLoad, isBefore, noWriteback}
 use Rattle.page_record.specs.Pages.{numberAt}
 use Rattle.page_record.specs.References.{refAt}
 use Rattle.page_record.specs.Rules.{sharedStateValid, phaseValid, excLets, mayPass, mayHold, holdersWithin}
@@ -88,28 +89,39 @@ pub record Known (h : Head) : Type 0 where
   -- a reader may be past it, and the flag is not Loading: the page is in, and nobody loads (rules 1, 2 and 6)
   pub passing-in : (b : ℕ) → T (notLoading (h .flag) && passing h b) → Stored (h .storage)
   pub passing-idle : (b : ℕ) → T (notLoading (h .flag) && passing h b) → T (noLoad (h .«loading_state»))
-  -- an editor that is Pending: the page is in, with the editor's value (rule 2)
+  -- a claimant (Claim, PendingAwaitWriteback, Pending): the page is in, with the claimant's value (rule 2)
+  pub claimant-in : T (isClaim (h .«exc_state») || isAwait (h .«exc_state») || isPending (h .«exc_state»))
+      → h .storage ≡ Storage.In (excValue (h .«exc_state»))
   pub pending-in : T (isPending (h .«exc_state»)) → h .storage ≡ Storage.In (excValue (h .«exc_state»))
+  -- a writeback: the page is in, with its value (rule 3)
+  pub archive-in : (v : ℕ) → h .«writeback_state» ≡ WritebackState.Held v → h .storage ≡ Storage.In v
 
 never : {A : Type 0} → ⊥ → A
 never t = absurd t
 
+-- there is no writeback, and so no value of one
+no-archive : {A : Type 0} (v : ℕ) → WritebackState.None ≡ WritebackState.Held v → A
+no-archive v e = absurd (let z : _≡_ {A = ℕ} 0 1 = cc in omega arith)
+
+its-own : (v w : ℕ) → WritebackState.Held v ≡ WritebackState.Held w → Storage.In v ≡ Storage.In w
+its-own v w e = cc
+
 -- at a shape each fact computes to what its flag, holders and storage are, or its premise is absurd
 known-at : (z : Shape) (cs : List Count) → T (valid z) → Known (headAt z cs)
-known-at (unmapped v) cs t = search (inl, inr, never)
-known-at waiting cs t = search (inl, inr, never)
-known-at (counted b) cs t = search (inl, inr, never)
-known-at (loaded m) cs t = search (inl, inr, never)
-known-at (available v) cs t = search (inl, inr, never)
-known-at (claimed m v) cs t = search (inl, inr, never)
-known-at (writeback v) cs t = search (inl, inr, never)
-known-at (writebackClaimed m v) cs t = search (inl, inr)
-known-at (writebackAwait m v) cs t = search (inl, inr, never)
-known-at (await m v) cs t = search (inl, inr, never)
-known-at (pending m n true v) cs t = search (inl, inr, never)
-known-at (pending m n false v) cs t = search (inl, inr, never)
-known-at (editing m true) cs t = search (inl, inr, never)
-known-at (editing m false) cs t = search (inl, inr, never)
+known-at (unmapped v) cs t = search (inl, inr, never, no-archive, its-own)
+known-at waiting cs t = search (inl, inr, never, no-archive)
+known-at (counted b) cs t = search (inl, inr, never, no-archive)
+known-at (loaded m) cs t = search (inl, inr, never, no-archive)
+known-at (available v) cs t = search (inl, inr, never, no-archive, its-own)
+known-at (claimed m v) cs t = search (inl, inr, never, no-archive, its-own)
+known-at (writeback v) cs t = search (inl, inr, never, its-own)
+known-at (writebackClaimed m v) cs t = search (inl, inr, its-own)
+known-at (writebackAwait m v) cs t = search (inl, inr, never, its-own)
+known-at (await m v) cs t = search (inl, inr, never, no-archive, its-own)
+known-at (pending m n true v) cs t = search (inl, inr, never, no-archive, its-own)
+known-at (pending m n false v) cs t = search (inl, inr, never, no-archive, its-own)
+known-at (editing m true) cs t = search (inl, inr, never, no-archive)
+known-at (editing m false) cs t = search (inl, inr, never, no-archive)
 
 pub known : {h : Head} {l : List Reader} → Sound h l → Known h
 known {h} s = by-shape (λ (x : Head). Known x) known-at h (s .head)
