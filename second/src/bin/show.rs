@@ -1,8 +1,11 @@
-//! Shows requests and their answers side by side, in words and in hexadecimal.
-//! It takes the file of the requests and the file of the answers.
+//! Shows requests and their answers side by side, in words, with the bytes of
+//! each below its words. It takes the file of the requests and the file of the
+//! answers.
 
-use std::{env, fs, io, process::ExitCode};
+use std::io::{self, ErrorKind, Write};
+use std::{env, fs, process::ExitCode};
 
+use second::steps::{takes_bucket, takes_clean, takes_value};
 use second::wire::RECORD;
 
 const STEPS: [&str; 24] = [
@@ -57,6 +60,8 @@ fn main() -> ExitCode {
     };
     match show(requests, answers) {
         Ok(()) => ExitCode::SUCCESS,
+        // a reader that has seen enough is no fault
+        Err(error) if error.kind() == ErrorKind::BrokenPipe => ExitCode::SUCCESS,
         Err(error) => {
             eprintln!("show: {error}");
             ExitCode::FAILURE
@@ -67,12 +72,12 @@ fn main() -> ExitCode {
 fn show(requests: &str, answers: &str) -> io::Result<()> {
     let requests = fs::read(requests)?;
     let answers = fs::read(answers)?;
+    let mut out = io::stdout().lock();
     let lines = answers.chunks(RECORD);
     for (number, (request, answer)) in (1..).zip(requests.chunks(RECORD).zip(lines)) {
-        println!("{number:>3}  {}", request_words(request));
-        println!("     {}", hex(request));
-        println!("     -> {}", answer_words(answer));
-        println!("     {}", hex(answer));
+        let asked = request_words(request);
+        writeln!(out, "{number:>3}  {asked:<45}  {}", answer_words(answer))?;
+        writeln!(out, "     {:<45}  {}", hex(request), hex(answer))?;
     }
     Ok(())
 }
@@ -86,13 +91,13 @@ fn request_words(request: &[u8]) -> String {
         n => STEPS.get(n - 1).copied().unwrap_or("no step"),
     };
     let mut words = format!("{step} {name}");
-    if matches!(step, 4 | 13 | 18..=24) || *bucket != 0 {
+    if takes_bucket(*step) || *bucket != 0 {
         words += &format!(", bucket {bucket}");
     }
-    if *step == 6 || *clean != 0 {
+    if takes_clean(*step) || *clean != 0 {
         words += &format!(", clean {clean}");
     }
-    if matches!(step, 4 | 9 | 10 | 16 | 17 | 22) || value(request) != 0 {
+    if takes_value(*step) || value(request) != 0 {
         words += &format!(", value {}", value(request));
     }
     words
@@ -117,7 +122,12 @@ fn value(record: &[u8]) -> u64 {
     u64::from_le_bytes(bytes)
 }
 
+/// The bytes in hexadecimal, four to a group.
 fn hex(bytes: &[u8]) -> String {
-    let bytes: Vec<String> = bytes.iter().map(|byte| format!("{byte:02x}")).collect();
-    bytes.join(" ")
+    let byte = |byte: &u8| format!("{byte:02x}");
+    let groups: Vec<String> = bytes
+        .chunks(4)
+        .map(|group| group.iter().map(byte).collect())
+        .collect();
+    groups.join(" ")
 }
