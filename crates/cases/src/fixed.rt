@@ -159,12 +159,17 @@ pub fn case_i() {
     two_buckets();
 }
 
-// How many of the first lines have the number 0.
-fn granted(answers: &[u8; TOO_LONG], lines: usize) -> u64
-    requires { ⌜ lines ≤ 2049 ⌝ }
+// A size, or the most there is.
+fn at_most(most: usize, size: usize) -> usize
+    ensures { λ r. ⌜ r ≤ most ⌝ }
 {
+    if size < most { size } else { most }
+}
+
+// How many lines have the number 0.
+fn granted(answers: &[u8; TOO_LONG]) -> u64 {
     let mut n: u64 = 0;
-    for i in 0..lines {
+    for i in 0..MOST_REQUESTS + 1 {
         if answers[i * RECORD] == 0 {
             n += 1;
         }
@@ -173,15 +178,14 @@ fn granted(answers: &[u8; TOO_LONG], lines: usize) -> u64
 }
 
 // A run of the first bytes from a fresh page, into as many bytes. A line that it leaves untouched counts as not granted.
-fn run_of(bytes: [u8; TOO_LONG], size: usize) -> Ran
-    requires { ⌜ size ≤ 32784 ⌝ }
-{
+fn run_of(bytes: [u8; TOO_LONG], size: usize) -> Ran {
+    let taken = at_most(TOO_LONG, size);
     let mut answers = [255u8; TOO_LONG];
-    let ran = replay::run(fresh(0), &bytes[..size], &mut answers[..size]);
+    let ran = replay::run(fresh(0), &bytes[..taken], &mut answers[..taken]);
     let said = ran.answer;
     Ran {
         number: steps::answer_number(said) as u64,
-        granted: granted(&answers, size / RECORD),
+        granted: granted(&answers),
     }
 }
 
@@ -208,9 +212,7 @@ pub fn case_j() {
     line(b"run", broken.number);
 }
 
-fn length_line(size: usize)
-    requires { ⌜ size ≤ 32784 ⌝ }
-{
+fn length_line(size: usize) {
     let zeros = [0u8; TOO_LONG];
     let ran = run_of(zeros, size);
     word(b"length ");
@@ -237,12 +239,11 @@ pub fn lengths() {
     length_line(32784);
 }
 
-fn room_line(space: usize)
-    requires { ⌜ space ≤ 32 ⌝ }
-{
+fn room_line(space: usize) {
+    let left = at_most(32, space);
     let zeros = [0u8; 32];
     let mut answers = [0u8; 32];
-    let ran = replay::run(fresh(0), &zeros, &mut answers[..space]);
+    let ran = replay::run(fresh(0), &zeros, &mut answers[..left]);
     let said = ran.answer;
     word(b"room ");
     number(space as u64);
@@ -261,11 +262,9 @@ pub fn rooms() {
 }
 
 // The example with another byte at a place, as one line of a run.
-fn damaged_line(place: usize, byte: u8)
-    requires { ⌜ place ≤ 15 ⌝ }
-{
+fn damaged_line(place: usize, byte: u8) {
     let mut request = EXAMPLE;
-    request[place] = byte;
+    request[place % RECORD] = byte;
     let mut last = [0u8; RECORD];
     replay::run(fresh(0), &request, &mut last);
     word(b"damaged ");
@@ -276,9 +275,7 @@ fn damaged_line(place: usize, byte: u8)
     end_line();
 }
 
-fn damaged_at(place: usize)
-    requires { ⌜ place ≤ 15 ⌝ }
-{
+fn damaged_at(place: usize) {
     damaged_line(place, 0);
     damaged_line(place, 1);
     damaged_line(place, 4);

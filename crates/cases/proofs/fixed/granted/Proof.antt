@@ -7,10 +7,10 @@ use Rattle.cases.proofs.fixed.granted.Statement.{statement}
 use Rattle.cases.proofs.fixed.granted.Tie as tie
 
 abbrev Inv-loop : tie.InvT-loop
-Inv-loop answers lines n₀ i₀ n i = (i ≤ lines) × (n ≤ i)
+Inv-loop answers n₀ i₀ n i = (i ≤ 2049) × (n ≤ i)
 
 abbrev μ-loop : tie.MeasureT-loop
-μ-loop answers lines n₀ i₀ n i = lines - i
+μ-loop answers n₀ i₀ n i = 2049 - i
 
 pub granted-spec : {M : Type 1} → statement M
 granted-spec =
