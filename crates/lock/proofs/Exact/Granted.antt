@@ -6,20 +6,15 @@ use mathlib.Core.Logic.{inl, inr}
 use mathlib.Core.Bool.{true, false}
 use mathlib.Core.List.{List}
 use lib.Dec.{T}
+use Rattle.kinds.specs.declared.{Count.Count, Flag.Flag, Storage.Storage, ExcState.ExcState, LoadingState.LoadingState}
+use Rattle.kinds.specs.declared.{WritebackState.WritebackState}
 use Rattle.kinds.specs.Flags.{isAvailable, claimable, isUnmapped, claimed}
-use Rattle.kinds.specs.declared.Count.{Count}
-use Rattle.kinds.specs.declared.Flag.{Flag}
-use Rattle.kinds.specs.declared.Storage.{Storage}
-use Rattle.kinds.specs.declared.ExcState.{ExcState}
-use Rattle.kinds.specs.declared.LoadingState.{LoadingState}
-use Rattle.kinds.specs.declared.WritebackState.{WritebackState}
 use Rattle.page_record.specs.declared.Head.{Head}
-use Rattle.page_record.specs.Holders.{validBucket, isEditing, isLoaded, loadingBucket}
-use Rattle.page_record.specs.Facts.{headSound}
-use Rattle.page_record.specs.Shapes.{Shape, headAt, valid}
-use Rattle.page_record.specs.Shapes as Shapes
-use Rattle.page_record.proofs.Shapes.{by-shape}
-use Rattle.lock.proofs.MoveFlags.{Claims}
+use Rattle.page_record.specs.Holders.{validBucket, isEditing, isLoading, loadingBucket}
+use Rattle.soundness.proofs.Facts.{headSound}
+use Rattle.soundness.proofs.Shapes.{Shape, headAt, valid, by-shape}
+use Rattle.soundness.proofs.Shapes as Shapes
+use Rattle.lock.proofs.Exact.Flags.{Claims}
 
 pub record Granted (h : Head) : Type 0 where
   -- 1
@@ -31,14 +26,14 @@ pub record Granted (h : Head) : Type 0 where
   -- 11 and 12
   pub unmapped : T (isUnmapped (h .flag)) → (h .flag ≡ Flag.Unmapped) × (h .«loading_state» ≡ LoadingState.None)
   -- 16 and 17
-  pub loaded : T (isLoaded (h .«loading_state»))
+  pub loading : T (isLoading (h .«loading_state»))
       → (h .storage ≡ Storage.Out) × T (validBucket (loadingBucket (h .«loading_state»)))
 
 granted-at : (z : Shape) (cs : List Count) → T (valid z) → Granted (headAt z cs)
 granted-at (Shapes.unmapped v) cs ok = search absurd
 granted-at Shapes.waiting cs ok = search absurd
 granted-at (Shapes.counted b) cs ok = search absurd
-granted-at (Shapes.loaded m) cs ok = search absurd
+granted-at (Shapes.loading m) cs ok = search absurd
 granted-at (Shapes.available v) cs ok = search (absurd, inl)
 granted-at (Shapes.claimed m v) cs ok = search absurd
 granted-at (Shapes.writeback v) cs ok = search (absurd, inr)

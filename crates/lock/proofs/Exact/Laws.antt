@@ -7,37 +7,31 @@ use mathlib.Core.Logic.{_⊎_, inl, inr, _≢_}
 use mathlib.Core.Bool.{Bool, true, false, not, cond}
 use mathlib.Core.List.{List, [], _∷_, _++_}
 use native.Mathlib.Omega.{arith}
+use borrow.Author.Tests.{eqb-true, eqb-false, eq-eqb, ne-eqb}
 use lib.Dec.{T, eqb, leb}
 use lib.ListN.{length, take, drop, getD, set, length-set}
 use lib.Seq.{ext-getD}
-use borrow.Author.Tests.{eqb-true, eqb-false, eq-eqb, ne-eqb}
+use Rattle.laws.specs.Lists.{without}
+use Rattle.laws.proofs.Tests.{both, halves, to-true, is-true}
+use Rattle.kinds.specs.declared.{Count.Count, MaybeBucket.MaybeBucket, Storage.Storage, Reader.Reader}
 use Rattle.kinds.specs.Limits.{capacity}
-use Rattle.kinds.specs.declared.Count.{Count}
-use Rattle.kinds.specs.declared.MaybeBucket.{MaybeBucket}
-use Rattle.kinds.specs.declared.Storage.{Storage}
-use Rattle.kinds.specs.declared.Reader.{Reader}
 use Rattle.readers.specs.declared.Found.{Found}
-use Rattle.readers.specs.Lists.{without}
 use Rattle.readers.specs.Same.{sameReader}
 use Rattle.readers.specs.Listed.{findIn, blankReader}
-use Rattle.readers.proofs.Tests.{both, halves, to-true, is-true}
 use Rattle.readers.proofs.Equal.{same-refl, same-is}
 use Rattle.readers.proofs.First.{absent, found, split-of-found, find-split, removed-first, put-first}
 use Rattle.page_record.specs.declared.Head.{Head}
 use Rattle.page_record.specs.Holders.{bucketOf}
 use Rattle.page_record.specs.Pages.{numberAt}
 use Rattle.page_record.specs.References.{refAt}
-use Rattle.steps.specs.declared.Refusal.{Refusal}
-use Rattle.steps.specs.declared.Answer.{Answer}
+use Rattle.requests.specs.declared.{Refusal.Refusal, Answer.Answer, Request.Request}
+use Rattle.heads.specs.declared.Decision.{Decision}
+use Rattle.heads.specs.Decisions.{Step, decided, isFound, placeOf}
 use Rattle.steps.specs.declared.Sought.{Sought}
-use Rattle.steps.specs.declared.Request.{Request}
-use Rattle.steps.specs.declared.Decision.{Decision}
-use Rattle.steps.specs.Premises.{Step, decided}
-use Rattle.steps.specs.Steps.{isFound, placeOf}
 use Rattle.steps.specs.Decide.{unknown, steps, sought, decideOf, soughtOf}
 use Rattle.lock.specs.Step.{edited, lookFor, decidedOn}
 use Rattle.lock.specs.Moves.{some, Absent, answerOf}
-use Rattle.lock.proofs.Counts.{set-there, set-others}
+use Rattle.lock.proofs.Keeps.Counts.{set-there, set-others}
 
 -- ---- acceptance
 -- the decision on a list of readers accepts, hands this out, and leaves this head and this list

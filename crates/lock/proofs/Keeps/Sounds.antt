@@ -6,21 +6,21 @@ use mathlib.Core.List.{List, [], _∷_, _++_}
 use native.Mathlib.Omega.{arith}
 use lib.Dec.{T, ltb, lt→ltb}
 use lib.ListN.{length, set, length-append, length-set}
+use Rattle.laws.specs.Lists.{every, without}
+use Rattle.laws.proofs.Tests.{both}
+use Rattle.laws.proofs.Lists.{length-without, every-mono, every-push, every-put, every-without, tally-put}
+use Rattle.laws.proofs.Lists.{tally-without}
+use Rattle.kinds.specs.declared.{Phase.Phase, Reader.Reader}
 use Rattle.kinds.specs.Limits.{buckets, capacity}
-use Rattle.kinds.specs.declared.Phase.{Phase}
-use Rattle.kinds.specs.declared.Reader.{Reader}
-use Rattle.readers.specs.Lists.{every, without}
 use Rattle.readers.specs.Listed.{isAt, countAt, blankReader}
-use Rattle.readers.proofs.Tests.{both}
-use Rattle.readers.proofs.Lists.{length-without, every-mono, every-push, every-put, every-without, tally-put, tally-without}
 use Rattle.readers.proofs.First.{First}
 use Rattle.page_record.specs.declared.Head.{Head}
 use Rattle.page_record.specs.Holders.{holds, noLoad}
 use Rattle.page_record.specs.References.{countAllRefs}
-use Rattle.page_record.specs.Rules.{sharedStateValid, phaseValid}
-use Rattle.page_record.specs.Facts.{headSound, Sound}
-use Rattle.page_record.proofs.Known.{passing, holding, hold-iff, valid-bucket, valid-phase}
-use Rattle.lock.proofs.Counts.{one, Counts}
+use Rattle.rules.specs.Rules.{sharedStateValid, phaseValid}
+use Rattle.soundness.proofs.Facts.{headSound, Sound}
+use Rattle.soundness.proofs.Known.{passing, holding, hold-iff, valid-bucket, valid-phase}
+use Rattle.lock.proofs.Keeps.Counts.{one, Counts}
 
 -- ---- readers that stay
 -- whoever is valid beside h is valid beside h′

@@ -1,44 +1,42 @@
--- Each step's premises are the numbers 5 to 11 of document 01's table (specs/Applies.antt), a line a step; `tabled-at` picks
--- the line of the step that a request names. A reader is found just if the table finds it listed (`found-listed`), a flag's test
+-- Each step's premises are the numbers 5 to 11 of the table in specs/Applies.antt, a line a step; `tabled-at` picks the line of
+-- the step that a request names. A reader is found just if the table finds it listed (`found-listed`), a flag's test
 -- is the table's list of flags (`available-lets` and the like), and soundness keeps counts, visited number and length within
 -- their limits (`bounds`). Assumes nothing.
 use Prim.Native.Nat.{ℕ, _≤_}
 use mathlib.Core.Path.{_≡_, refl, sym, ap, _∙_}
 use mathlib.Core.Bool.{Bool, true, false, not, _&&_, Bool·not-not}
-use mathlib.Core.List.{List, map}
+use mathlib.Core.List.{List}
 use native.Mathlib.Omega.{arith}
 use lib.Dec.{T, eqb, ltb, leb}
-use lib.ListN.{drop}
+use Rattle.laws.specs.Tables.{firstApplying}
+use Rattle.laws.specs.Lists.{among}
+use Rattle.laws.proofs.Tests.{is-true}
+use Rattle.laws.proofs.Pick.{Below, _&_, pick}
+use Rattle.laws.proofs.Orders.{limit-not-below, limit-reached}
+use Rattle.kinds.specs.declared.{Bucket.Bucket, Flag.Flag, Phase.Phase, Reader.Reader}
 use Rattle.kinds.specs.Limits.{buckets, capacity, ceiling}
 use Rattle.kinds.specs.Flags.{isAvailable, claimable, writebackDone, isUnmapped, openToReaders, notLoading}
-use Rattle.kinds.specs.declared.Bucket.{Bucket}
-use Rattle.kinds.specs.declared.Flag.{Flag}
-use Rattle.kinds.specs.declared.Phase.{Phase}
-use Rattle.kinds.specs.declared.Reader.{Reader}
-use Rattle.readers.specs.declared.Found.{Found}
-use Rattle.readers.specs.declared.Readers.{Readers}
+use Rattle.readers.specs.declared.{Found.Found, Readers.Readers}
 use Rattle.readers.specs.Listed.{live, findIn}
-use Rattle.readers.proofs.Tests.{is-true}
 use Rattle.readers.proofs.First.{absent, nowhere, find-none}
 use Rattle.page_record.specs.declared.Page.{Page}
-use Rattle.page_record.specs.Holders.{hasBucket, isClaim, isAwait, isPending, isEditing, excBucket, excVisited, isWaiting, isCounted, isLoaded, loadingBucket, noWriteback}
+use Rattle.page_record.specs.Holders.{hasBucket, isClaim, isAwait, isPending, isEditing, excBucket, excVisited}
+use Rattle.page_record.specs.Holders.{isWaiting, isCounted, isLoading, loadingBucket, noWriteback}
 use Rattle.page_record.specs.Pages.{headOf, numberAt}
 use Rattle.page_record.specs.References.{refAt}
-use Rattle.page_record.specs.Rules.{soundOf, firstBroken}
-use Rattle.page_record.proofs.Known.{visited-within}
-use Rattle.page_record.proofs.Tested.{facts}
-use Rattle.steps.specs.declared.Request.{Request}
-use Rattle.steps.specs.Premises.{Step}
-use Rattle.steps.specs.Requests.{isStep}
-use Rattle.steps.specs.Steps.{isFound, reader}
+use Rattle.soundness.specs.Soundness.{soundOf}
+use Rattle.soundness.proofs.Known.{visited-within}
+use Rattle.soundness.proofs.Tested.{facts}
+use Rattle.requests.specs.declared.Request.{Request}
+use Rattle.requests.specs.Requests.{isStep, pastLast}
+use Rattle.requests.proofs.Verdicts.{failing}
+use Rattle.requests.proofs.Formed.{step-most}
+use Rattle.heads.specs.Decisions.{Step, isFound, reader}
 use Rattle.steps.specs.Decide.{stepAt, soughtOf}
-use Rattle.lock.specs.Words.{among, raising, listing}
+use Rattle.lock.specs.Words.{raising, listing}
 use Rattle.lock.specs.Step.{lookFor}
-use Rattle.lock.specs.Applies.{flagLets, lists, holderThere, bucketWrong, visitedWrong, countOther, applying}
-use Rattle.lock.proofs.Passes.{step-most}
-use Rattle.lock.proofs.Pick.{Below, _&_, pick}
-use Rattle.lock.proofs.Cells.{pastLast}
-use Rattle.lock.proofs.Numbered.{limit-not-below, limit-reached, numbered, tabled, premised-tabled, alone}
+use Rattle.lock.specs.Applies.{flagLets, lists, holderThere, bucketWrong, visitedWrong, countOther, applyingStep}
+use Rattle.lock.proofs.Least.Numbered.{tabled, premised-tabled, flag-holder}
 
 -- ---- what soundness adds: counts, visited number and length are within their limits
 pub record Bounds (p : Page) : Type 0 where
@@ -120,7 +118,7 @@ module _ (p : Page) (within : Bounds p) (b : Bucket) (clean value : ℕ) where
 
   abbrev Tabled : ℕ → Type 0
   Tabled n =
-      numbered (stepNo n .premises)
+      firstApplying (failing (stepNo n .premises))
       ≡ tabled (flagLets n (p .flag)) (holderThere p (ask n)) (bucketWrong p n) (visitedWrong p n) (countOther p n)
       (among raising n && atCeiling) (among listing n && isFull)
 
@@ -151,25 +149,25 @@ module _ (p : Page) (within : Bounds p) (b : Bucket) (clean value : ℕ) where
   finds phase = found-listed (live (p .readers)) (reader phase b)
 
   tabled1 : Tabled 1
-  tabled1 = rw (available-lets (p .flag)) (alone (flagLets 1 (p .flag)) true)
+  tabled1 = rw (available-lets (p .flag)) (flag-holder (flagLets 1 (p .flag)) true)
 
   tabled2 : Tabled 2
-  tabled2 = alone true (not (noWriteback (p .«writeback_state»)))
+  tabled2 = flag-holder true (not (noWriteback (p .«writeback_state»)))
 
   tabled3 : Tabled 3
-  tabled3 = rw (claimable-lets (p .flag)) (alone (flagLets 3 (p .flag)) true)
+  tabled3 = rw (claimable-lets (p .flag)) (flag-holder (flagLets 3 (p .flag)) true)
 
   tabled4 : Tabled 4
   unfolding lookFor soughtOf
   tabled4 =
       let x = Phase.Obtained value in
-      rw (claimable-lets (p .flag), finds x) (alone (flagLets 4 (p .flag)) (reads x))
+      rw (claimable-lets (p .flag), finds x) (flag-holder (flagLets 4 (p .flag)) (reads x))
 
   tabled5 : Tabled 5
-  tabled5 = alone true (isClaim (p .«exc_state»))
+  tabled5 = flag-holder true (isClaim (p .«exc_state»))
 
   tabled6 : Tabled 6
-  tabled6 = rw (writeback-lets (p .flag)) (alone (flagLets 6 (p .flag)) (isAwait (p .«exc_state»)))
+  tabled6 = rw (writeback-lets (p .flag)) (flag-holder (flagLets 6 (p .flag)) (isAwait (p .«exc_state»)))
 
   tabled7 : Tabled 7
   tabled7 =
@@ -187,25 +185,25 @@ module _ (p : Page) (within : Bounds p) (b : Bucket) (clean value : ℕ) where
   tabled10 = premised-tabled true (isEditing (p .«exc_state»)) exc-bucket true true true false
 
   tabled11 : Tabled 11
-  tabled11 = rw (unmapped-lets (p .flag)) (alone (flagLets 11 (p .flag)) true)
+  tabled11 = rw (unmapped-lets (p .flag)) (flag-holder (flagLets 11 (p .flag)) true)
 
   tabled12 : Tabled 12
-  tabled12 = rw (unmapped-lets (p .flag)) (alone (flagLets 12 (p .flag)) true)
+  tabled12 = rw (unmapped-lets (p .flag)) (flag-holder (flagLets 12 (p .flag)) true)
 
   tabled13 : Tabled 13
   tabled13 = rw at-ceiling (premised-tabled true (isWaiting (p .«loading_state»)) true true true under false)
 
   tabled14 : Tabled 14
-  tabled14 = alone true (isCounted (p .«loading_state»))
+  tabled14 = flag-holder true (isCounted (p .«loading_state»))
 
   tabled15 : Tabled 15
-  tabled15 = alone true (isWaiting (p .«loading_state»))
+  tabled15 = flag-holder true (isWaiting (p .«loading_state»))
 
   tabled16 : Tabled 16
-  tabled16 = rw is-full (premised-tabled true (isLoaded (p .«loading_state»)) load-bucket true true true full)
+  tabled16 = rw is-full (premised-tabled true (isLoading (p .«loading_state»)) load-bucket true true true full)
 
   tabled17 : Tabled 17
-  tabled17 = premised-tabled true (isLoaded (p .«loading_state»)) load-bucket true true true false
+  tabled17 = premised-tabled true (isLoading (p .«loading_state»)) load-bucket true true true false
 
   tabled18 : Tabled 18
   tabled18 =
@@ -217,23 +215,23 @@ module _ (p : Page) (within : Bounds p) (b : Bucket) (clean value : ℕ) where
 
   tabled20 : Tabled 20
   unfolding lookFor soughtOf
-  tabled20 = rw (finds Phase.Pending) (alone true (reads Phase.Pending))
+  tabled20 = rw (finds Phase.Pending) (flag-holder true (reads Phase.Pending))
 
   tabled21 : Tabled 21
   unfolding lookFor soughtOf
-  tabled21 = rw (finds Phase.Pending2) (alone true (reads Phase.Pending2))
+  tabled21 = rw (finds Phase.Pending2) (flag-holder true (reads Phase.Pending2))
 
   tabled22 : Tabled 22
   unfolding lookFor soughtOf
-  tabled22 = let x = Phase.Obtained value in rw (finds x) (alone true (reads x))
+  tabled22 = let x = Phase.Obtained value in rw (finds x) (flag-holder true (reads x))
 
   tabled23 : Tabled 23
   unfolding lookFor soughtOf
-  tabled23 = rw (open-lets (p .flag), finds Phase.Pending) (alone (flagLets 23 (p .flag)) (reads Phase.Pending))
+  tabled23 = rw (open-lets (p .flag), finds Phase.Pending) (flag-holder (flagLets 23 (p .flag)) (reads Phase.Pending))
 
   tabled24 : Tabled 24
   unfolding lookFor soughtOf
-  tabled24 = rw (loading-lets (p .flag), finds Phase.Pending2) (alone (flagLets 24 (p .flag)) (reads Phase.Pending2))
+  tabled24 = rw (loading-lets (p .flag), finds Phase.Pending2) (flag-holder (flagLets 24 (p .flag)) (reads Phase.Pending2))
 
   -- no step has number 0
   entries : Below pastLast (λ n. T (isStep n) → Tabled n)
@@ -247,8 +245,9 @@ module _ (p : Page) (within : Bounds p) (b : Bucket) (clean value : ℕ) where
 
 -- the step that a request names
 pub tabled-at : (p : Page) → Bounds p → (q : Request) → T (isStep (q .step))
-    → numbered (stepAt (headOf p) q (lookFor (live (p .readers)) (soughtOf q)) (leb capacity (p .readers .len)) .premises)
-    ≡ firstBroken 5 (map not (drop 4 (applying p q)))
+    → firstApplying
+    (failing (stepAt (headOf p) q (lookFor (live (p .readers)) (soughtOf q)) (leb capacity (p .readers .len)) .premises))
+    ≡ firstApplying (applyingStep p q)
 tabled-at p within q t =
     pick pastLast (λ (n : ℕ). T (isStep n) → Tabled p within (q .bucket) (q .clean) (q .value) n)
     (entries p within (q .bucket) (q .clean) (q .value)) (q .step) (omega (arith, step-most (q .step) t)) t

@@ -8,43 +8,48 @@ use mathlib.Core.Logic.{_≢_}
 use mathlib.Core.Bool.{Bool, true, false, cond}
 use mathlib.Core.List.{List, [], _∷_, _++_}
 use native.Mathlib.Omega.{arith}
+use borrow.Author.Tests.{eqb-true, eqb-false, eq-eqb}
 use lib.Dec.{T, eqb, leb, ltb→lt, nleb→lt, eqb→eq}
 use lib.ListN.{length, length-set}
-use borrow.Author.Tests.{eqb-true, eqb-false, eq-eqb}
+use Rattle.laws.specs.Lists.{among}
+use Rattle.laws.proofs.Pick.{_&_, pick}
+use Rattle.kinds.specs.declared.{Bucket.Bucket, Count.Count, MaybeBucket.MaybeBucket, Storage.Storage, Phase.Phase}
+use Rattle.kinds.specs.declared.{Reader.Reader}
 use Rattle.kinds.specs.Limits.{buckets, ceiling, capacity}
-use Rattle.kinds.specs.declared.Bucket.{Bucket}
-use Rattle.kinds.specs.declared.Count.{Count}
-use Rattle.kinds.specs.declared.MaybeBucket.{MaybeBucket}
-use Rattle.kinds.specs.declared.Storage.{Storage}
-use Rattle.kinds.specs.declared.Phase.{Phase}
-use Rattle.kinds.specs.declared.Reader.{Reader}
 use Rattle.readers.specs.Listed.{findIn}
 use Rattle.page_record.specs.declared.Head.{Head}
 use Rattle.page_record.specs.Holders.{valueOf, hasBucket, bucketOf, excBucket, excVisited, loadingBucket}
 use Rattle.page_record.specs.Pages.{numberAt}
 use Rattle.page_record.specs.References.{refAt}
-use Rattle.page_record.specs.Facts.{Sound}
-use Rattle.page_record.proofs.Shapes.{is-claim, is-await, is-loaded, is-held, has-bucket, is-pending, is-editing, is-waiting, is-counted, no-bucket}
-use Rattle.page_record.proofs.Known.{listed-counted}
-use Rattle.steps.specs.declared.Verdict.{Verdict}
-use Rattle.steps.specs.declared.Request.{Request}
-use Rattle.steps.specs.declared.Decision.{Decision}
-use Rattle.steps.specs.Premises.{Step, verdict, Passes, settled, decided}
-use Rattle.steps.specs.Setters.{withNumber}
-use Rattle.steps.specs.Steps.{reader, takeWriteback, releaseWriteback, bucketlessClaim, sharedToClaim, claimToPending, takeExcLockFinishWriteback, takeExcLockCheckRefCount, withdrawTakeExcLockFinish, depositDowngradeExcLock, depositDowngradeExcLockToClaim, withdrawAlloc, withdrawAllocNoRefcount, loadingIncCount, obtainLoading, obtainLoadingNoRefcount, depositLoadingToShared, depositLoadingToDone, excIncCount, sharedIncCount, sharedDecCount, sharedCheckExc, sharedCheckLoading}
+use Rattle.page_record.proofs.Inversions.{is-claim, is-await, is-loading, is-held, has-bucket, is-pending, is-editing}
+use Rattle.page_record.proofs.Inversions.{is-waiting, is-counted, no-bucket}
+use Rattle.soundness.proofs.Facts.{Sound}
+use Rattle.soundness.proofs.Known.{listed-counted}
+use Rattle.requests.specs.declared.{Verdict.Verdict, Request.Request}
+use Rattle.requests.specs.Premises.{verdict, Passes}
+use Rattle.requests.specs.Requests.{pastLast}
+use Rattle.requests.proofs.Verdicts.{passed}
+use Rattle.requests.proofs.Formed.{Formed}
+use Rattle.heads.specs.declared.Decision.{Decision}
+use Rattle.heads.specs.Decisions.{Step, settled, decided, reader}
+use Rattle.heads.specs.Setters.{withNumber}
+use Rattle.editing.specs.Steps.{takeWriteback, releaseWriteback, bucketlessClaim, sharedToClaim, claimToPending}
+use Rattle.editing.specs.Steps.{takeExcLockFinishWriteback, takeExcLockCheckRefCount, withdrawTakeExcLockFinish}
+use Rattle.editing.specs.Steps.{depositDowngradeExcLock, depositDowngradeExcLockToClaim, excIncCount}
+use Rattle.reading.specs.Steps.{withdrawAlloc, withdrawAllocNoRefcount, loadingIncCount, obtainLoading}
+use Rattle.reading.specs.Steps.{obtainLoadingNoRefcount, depositLoadingToShared, depositLoadingToDone, sharedIncCount}
+use Rattle.reading.specs.Steps.{sharedDecCount, sharedCheckExc, sharedCheckLoading}
 use Rattle.steps.specs.Decide.{unknown}
-use Rattle.steps.proofs.Verdicts.{passed}
 use Rattle.lock.specs.Step.{edited, lookFor, decidedOn}
-use Rattle.lock.specs.Words.{among, raising, listing}
-use Rattle.lock.specs.Moves.{Moves, RwLock, Field, stateWith, countOf, Elsewhere, Absent, Only, Room, answerOf, pending, pending2, obtained}
-use Rattle.lock.proofs.MoveLaws.{handed, is-handed, unrefused, stepNo, by-number, expected, Split, split}
-use Rattle.lock.proofs.MoveFlags.{releases, awaits, lock-flag, opened}
-use Rattle.lock.proofs.Pick.{_&_, pick}
-use Rattle.lock.proofs.Passes.{Formed}
-use Rattle.lock.proofs.Cells.{pastLast}
-use Rattle.lock.proofs.Counts.{set-there, set-others}
-use Rattle.lock.proofs.Reach.{release-flags, claim-flags, writeback-stored, claim-stored, read-stored, lock-withdraws, alloc-withdraws, alloc-no-refcount-withdraws}
-use Rattle.lock.proofs.MoveFacts.{Granted, granted}
+use Rattle.lock.specs.Words.{raising, listing}
+use Rattle.lock.specs.Moves.{Moves, RwLock, Field, stateWith, countOf, Elsewhere, Absent, Only, Room, answerOf}
+use Rattle.lock.specs.Moves.{pending, pending2, obtained}
+use Rattle.lock.proofs.Exact.Laws.{handed, is-handed, unrefused, stepNo, by-number, expected, Split, split}
+use Rattle.lock.proofs.Exact.Flags.{releases, awaits, lock-flag, opened}
+use Rattle.lock.proofs.Keeps.Counts.{set-there, set-others}
+use Rattle.lock.proofs.Reach.{release-flags, claim-flags, writeback-stored, claim-stored, read-stored}
+use Rattle.lock.proofs.Reach.{lock-withdraws, alloc-withdraws, alloc-no-refcount-withdraws}
+use Rattle.lock.proofs.Exact.Granted.{Granted, granted}
 
 -- ---- a holder's own bucket, and step 6's clean
 own : (m : MaybeBucket) → T (hasBucket m) → refAt m (bucketOf m .0) ≡ 1
@@ -207,8 +212,8 @@ module _ (h : Head) (l : List Reader) (q : Request) where
     fits16 : q .step ≡ 16 → Fits (decided h (depositLoadingToShared h q full))
     fits16 step =
         ran (depositLoadingToShared h q full) (λ p. roomy 16 step absurd λ _. nleb→lt capacity (length l) (p .1 .1 .0)) λ p out o.
-        Moves.deposit-loading-to-shared _ _ step (is-loaded _ (p .0), refl) (has-bucket _ (p .1 .0)) refl
-        (given .loaded (p .0) .0, refl) refl (search)
+        Moves.deposit-loading-to-shared _ _ step (is-loading _ (p .0), refl) (has-bucket _ (p .1 .0)) refl
+        (given .loading (p .0) .0, refl) refl (search)
 
     fits17 : q .step ≡ 17 → Fits (decided h (depositLoadingToDone h q))
     fits17 step = ran (depositLoadingToDone h q) (λ _. roomy 17 step absurd absurd) λ p out o.
@@ -216,10 +221,10 @@ module _ (h : Head) (l : List Reader) (q : Request) where
         let b = bucketOf m in
         let n = numberAt (h .«ref_counts») (b .0) in
         let has = has-bucket m (p .1 .0) in
-        let k = given .loaded (p .0) in
+        let k = given .loading (p .0) in
         let below : b .0 < buckets = ltb→lt (b .0) buckets (rw has at (k .1)) in
         let some : 1 ≤ n = omega (arith, s .counts (b .0) below, own m (p .1 .0)) in
-        Moves.deposit-loading-to-done m b n step (is-loaded _ (p .0), refl) has refl (k .0, refl) refl some
+        Moves.deposit-loading-to-done m b n step (is-loading _ (p .0), refl) has refl (k .0, refl) refl some
         (there b (n - 1) below) (others b (n - 1) refl) (search)
 
     fits18 : q .step ≡ 18 → Fits (decided h (excIncCount h q))

@@ -5,14 +5,14 @@ use mathlib.Core.Path.{_≡_, refl, sym, ap}
 use mathlib.Core.Bool.{Bool, true, false, cond}
 use mathlib.Core.List.{List}
 use native.Mathlib.Omega.{arith}
+use borrow.Author.Tests.{eqb-true, eqb-false, eq-eqb}
 use lib.Dec.{eqb}
 use lib.ListN.{length, length-set}
 use lib.Seq.{getD-set-same, getD-set-other}
-use borrow.Author.Tests.{eqb-true, eqb-false, eq-eqb}
-use Rattle.kinds.specs.Limits.{buckets, ceiling}
 use Rattle.kinds.specs.declared.Count.{Count}
+use Rattle.kinds.specs.Limits.{buckets, ceiling}
 use Rattle.page_record.specs.Pages.{numberAt}
-use Rattle.steps.specs.Setters.{withNumber, raise, lower}
+use Rattle.heads.specs.Setters.{withNumber, raise, lower}
 
 -- 1 at the bucket a, 0 elsewhere
 abbrev pub one : ℕ → ℕ → ℕ

@@ -7,29 +7,28 @@ use mathlib.Core.List.{List, [], _∷_}
 use native.Mathlib.Omega.{arith}
 use lib.Dec.{T, ltb, ltb→lt, lt→ltb}
 use lib.ListN.{length, set}
+use Rattle.laws.specs.Lists.{without}
+use Rattle.laws.proofs.Tests.{both}
+use Rattle.laws.proofs.Lists.{tally-push}
+use Rattle.laws.proofs.Pick.{_&_}
+use Rattle.kinds.specs.declared.{Phase.Phase, Reader.Reader}
 use Rattle.kinds.specs.Limits.{buckets, capacity, ceiling}
 use Rattle.kinds.specs.Flags.{notLoading}
-use Rattle.kinds.specs.declared.Phase.{Phase}
-use Rattle.kinds.specs.declared.Reader.{Reader}
 use Rattle.readers.specs.declared.Found.{Found}
-use Rattle.readers.specs.Lists.{without}
 use Rattle.readers.specs.Listed.{isAt}
-use Rattle.readers.proofs.Tests.{both}
-use Rattle.readers.proofs.Lists.{tally-push}
 use Rattle.readers.proofs.First.{First}
 use Rattle.page_record.specs.declared.Head.{Head}
 use Rattle.page_record.specs.Holders.{valueOf}
 use Rattle.page_record.specs.Pages.{numberAt}
-use Rattle.page_record.specs.Rules.{phaseValid}
-use Rattle.page_record.specs.Facts.{Sound}
-use Rattle.page_record.proofs.Known.{passing, holding, hold-iff, valid-phase, stored-holds, known, found-valid}
-use Rattle.steps.specs.declared.Request.{Request}
-use Rattle.steps.specs.Setters.{lowered}
-use Rattle.steps.specs.Steps.{isFound, placeOf, reader}
-use Rattle.lock.proofs.Counts.{same-counts, raised-counts, lowered-counts}
-use Rattle.lock.proofs.Sounds.{counts-of, count-put, count-without, pushed, put, removed}
-use Rattle.lock.proofs.Pick.{_&_}
-use Rattle.lock.proofs.Cells.{Cell, Cells}
+use Rattle.rules.specs.Rules.{phaseValid}
+use Rattle.soundness.proofs.Facts.{Sound}
+use Rattle.soundness.proofs.Known.{passing, holding, hold-iff, valid-phase, stored-holds, known, found-valid}
+use Rattle.requests.specs.declared.Request.{Request}
+use Rattle.heads.specs.Setters.{lowered}
+use Rattle.heads.specs.Decisions.{isFound, placeOf, reader}
+use Rattle.lock.proofs.Keeps.Counts.{same-counts, raised-counts, lowered-counts}
+use Rattle.lock.proofs.Keeps.Sounds.{counts-of, count-put, count-without, pushed, put, removed}
+use Rattle.lock.proofs.Keeps.Cells.{Cell, Cells}
 
 abbrev pub readerSteps : List ℕ
 readerSteps = 19 ∷ 20 ∷ 21 ∷ 22 ∷ 23 ∷ 24 ∷ []

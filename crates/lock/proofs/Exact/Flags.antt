@@ -5,8 +5,8 @@ use mathlib.Core.Path.{_≡_, refl, sym}
 use mathlib.Core.Logic.{_⊎_, inl, inr, _≢_}
 use mathlib.Core.Bool.{Bool, true, false, cond}
 use lib.Dec.{T}
-use Rattle.kinds.specs.Flags.{claimable, writebackDone, openToReaders, notLoading, released, claimed, awaited, lockFlag}
 use Rattle.kinds.specs.declared.Flag.{Flag}
+use Rattle.kinds.specs.Flags.{claimable, writebackDone, openToReaders, notLoading, released, claimed, awaited, lockFlag}
 
 -- ---- the arms of `match pre.flag`
 -- an arm: the flag is x, and becomes y

@@ -9,39 +9,37 @@ use native.Mathlib.Omega.{arith}
 use borrow.Author.Tests.{eqb-false}
 use lib.Dec.{T, eqb, leb, ltb, eqb→eq, eqb-refl, leb→le, le→leb, nleb→lt, ltb→lt, lt→ltb}
 use lib.ListN.{length}
+use Rattle.laws.specs.Lists.{without}
+use Rattle.laws.proofs.Tests.{to-false, both, halves, and-iff}
+use Rattle.laws.proofs.Lists.{every-mono, every-both, tally-none, tally-push}
+use Rattle.laws.proofs.Pick.{_&_}
+use Rattle.kinds.specs.declared.{Bucket.Bucket, Visited.Visited, Count.Count, MaybeBucket.MaybeBucket, Phase.Phase}
+use Rattle.kinds.specs.declared.{Reader.Reader}
 use Rattle.kinds.specs.Limits.{buckets, capacity, ceiling}
 use Rattle.kinds.specs.Flags.{isUnmapped, lockFlag}
-use Rattle.kinds.specs.declared.Bucket.{Bucket}
-use Rattle.kinds.specs.declared.Visited.{Visited}
-use Rattle.kinds.specs.declared.Count.{Count}
-use Rattle.kinds.specs.declared.MaybeBucket.{MaybeBucket}
-use Rattle.kinds.specs.declared.Phase.{Phase}
-use Rattle.kinds.specs.declared.Reader.{Reader}
 use Rattle.readers.specs.declared.Found.{Found}
-use Rattle.readers.specs.Lists.{without}
 use Rattle.readers.specs.Listed.{isAt, countAt}
-use Rattle.readers.proofs.Tests.{to-false, both, halves, and-iff}
-use Rattle.readers.proofs.Lists.{every-mono, every-both, tally-none, tally-push}
 use Rattle.readers.proofs.First.{First}
 use Rattle.page_record.specs.declared.Head.{Head}
 use Rattle.page_record.specs.Holders.{holds, validBucket}
 use Rattle.page_record.specs.Pages.{numberAt}
 use Rattle.page_record.specs.References.{refAt}
-use Rattle.page_record.specs.Rules.{sharedStateValid}
-use Rattle.page_record.specs.Facts.{Sound}
-use Rattle.page_record.specs.Shapes.{Shape, unmapped, waiting, counted, loaded, available, claimed, writeback, writebackClaimed, writebackAwait, await, pending, editing, headAt, valid}
-use Rattle.page_record.proofs.Shapes.{shaped, by-shape}
-use Rattle.page_record.proofs.Known.{hold-iff, valid-phase, found-valid, none-at, closed-passing}
-use Rattle.steps.specs.declared.Request.{Request}
-use Rattle.steps.specs.Setters.{raise, lower}
-use Rattle.steps.specs.Steps.{placeOf, reader}
+use Rattle.rules.specs.Rules.{sharedStateValid}
+use Rattle.soundness.proofs.Facts.{Sound}
+use Rattle.soundness.proofs.Shapes.{Shape, unmapped, waiting, counted, loading, available, claimed, writeback}
+use Rattle.soundness.proofs.Shapes.{writebackClaimed, writebackAwait, await, pending, editing, headAt, valid, shaped}
+use Rattle.soundness.proofs.Shapes.{by-shape}
+use Rattle.soundness.proofs.Known.{hold-iff, valid-phase, found-valid, none-at, closed-passing}
+use Rattle.requests.specs.declared.Request.{Request}
+use Rattle.heads.specs.Setters.{raise, lower}
+use Rattle.heads.specs.Decisions.{placeOf, reader}
 use Rattle.steps.specs.Decide.{decideOf, soughtOf}
 use Rattle.lock.specs.Step.{lookFor, decidedOn}
-use Rattle.lock.proofs.Counts.{one, Counts, same-counts, raised-counts, lowered-counts}
-use Rattle.lock.proofs.Sounds.{Stay, stays-at, stays, quiet, count-without, counts-of, sound-of, kept, kept-quiet, pushed, removed}
-use Rattle.lock.proofs.Pick.{_&_}
-use Rattle.lock.proofs.Cells.{Kept, settle, finds, numbered, Cells, Row, cell-of}
-use Rattle.lock.proofs.Shared.{readerSteps, reader-cells}
+use Rattle.lock.proofs.Keeps.Counts.{one, Counts, same-counts, raised-counts, lowered-counts}
+use Rattle.lock.proofs.Keeps.Sounds.{Stay, stays-at, stays, quiet, count-without, counts-of, sound-of, kept}
+use Rattle.lock.proofs.Keeps.Sounds.{kept-quiet, pushed, removed}
+use Rattle.lock.proofs.Keeps.Cells.{Kept, settle, finds, numbered, Cells, Row, cell-of}
+use Rattle.lock.proofs.Keeps.Shared.{readerSteps, reader-cells}
 
 -- ---- who stays beside an editor that locks, and after a loader
 -- 6: an editor that has visited no bucket yet shuts nobody out
@@ -91,9 +89,9 @@ module _ (m : MaybeBucket) (n : Visited) (clean : Bool) (v : ℕ) (cs : List Cou
       (s .room) (counts-of s)
 
 -- 16 and 17: with the loader gone, whoever is past the first check may stay
-opens : (m : MaybeBucket) (v : ℕ) (cs cs′ : List Count) → Stay (headAt (loaded m) cs) (headAt (available v) cs′)
+opens : (m : MaybeBucket) (v : ℕ) (cs cs′ : List Count) → Stay (headAt (loading m) cs) (headAt (available v) cs′)
 opens m v cs cs′ =
-    stays (headAt (loaded m) cs) (headAt (available v) cs′) (λ b k. record { pass = λ t. tt; hold = λ u t x. absurd x })
+    stays (headAt (loading m) cs) (headAt (available v) cs′) (λ b k. record { pass = λ t. tt; hold = λ u t x. absurd x })
 
 module _ (l : List Reader) (q : Request) (inside : q .bucket .0 < buckets) (found : Found) (full : Bool)
     (room : T (not full) → length l < capacity) where
@@ -134,36 +132,36 @@ module _ (l : List Reader) (q : Request) (inside : q .bucket .0 < buckets) (foun
 
   -- ---- the table
   table : (z : Shape) (cs : List Count) → Sound (headAt z cs) l → T (valid z) → Row l q found full (headAt z cs)
-  -- 11 leads to waiting, 12 to loaded without a bucket
+  -- 11 leads to waiting, 12 to loading without a bucket
   table (unmapped v) cs s ok = record {
     numbers = 11 ∷ 12 ∷ readerSteps;
     cells =
         (λ _ _. kept-quiet s (shaped waiting cs tt) (λ b k t. t) (counts-of s))
-        & (λ _ _. kept-quiet s (shaped (loaded MaybeBucket.None) cs tt) (λ b k t. t) (counts-of s))
+        & (λ _ _. kept-quiet s (shaped (loading MaybeBucket.None) cs tt) (λ b k t. t) (counts-of s))
         & any s;
     others = tt;
   }
-  -- 13 to counted, 15 to loaded without a bucket
+  -- 13 to counted, 15 to loading without a bucket
   table waiting cs s ok = record {
     numbers = 13 ∷ 15 ∷ readerSteps;
     cells =
         (λ _ p.
         kept s (shaped (counted (q .bucket)) (raise (q .bucket .0) cs) near) (λ r t. t)
         (more (counts-of s) (p .1 .0) (λ b. omega arith)))
-        & (λ _ _. kept-quiet s (shaped (loaded MaybeBucket.None) cs tt) (λ b k t. t) (counts-of s))
+        & (λ _ _. kept-quiet s (shaped (loading MaybeBucket.None) cs tt) (λ b k t. t) (counts-of s))
         & any s;
     others = tt;
   }
-  -- 14 to loaded
+  -- 14 to loading
   table (counted b) cs s ok = record {
     numbers = 14 ∷ readerSteps;
-    cells = (λ _ _. kept-quiet s (shaped (loaded (MaybeBucket.At b)) cs ok) (λ b k t. t) (counts-of s)) & any s;
+    cells = (λ _ _. kept-quiet s (shaped (loading (MaybeBucket.At b)) cs ok) (λ b k t. t) (counts-of s)) & any s;
     others = tt;
   }
   -- a loader without a bucket can't put the page back
-  table (loaded MaybeBucket.None) cs s ok = record { numbers = readerSteps; cells = any s; others = tt }
+  table (loading MaybeBucket.None) cs s ok = record { numbers = readerSteps; cells = any s; others = tt }
   -- 16 and 17 to available
-  table (loaded (MaybeBucket.At b)) cs s ok = record {
+  table (loading (MaybeBucket.At b)) cs s ok = record {
     numbers = 16 ∷ 17 ∷ readerSteps;
     cells =
         (λ _ p.

@@ -11,25 +11,23 @@ use native.Mathlib.Omega.{arith}
 use borrow.Author.Tests.{ltb-true, ltb-false, eqb-true, eqb-false}
 use lib.Dec.{T, eqb, ltb}
 use lib.ListN.{getD, List·getD-eq-default}
+use Rattle.laws.specs.Lists.{among}
+use Rattle.laws.proofs.Tests.{is-true, halves}
 use Rattle.kinds.specs.declared.Reader.{Reader}
 use Rattle.readers.specs.declared.Found.{Found}
 use Rattle.readers.specs.Listed.{findIn}
-use Rattle.readers.proofs.Tests.{is-true, halves}
 use Rattle.readers.proofs.First.{First, found}
 use Rattle.page_record.specs.declared.Head.{Head}
-use Rattle.page_record.specs.Facts.{Sound}
-use Rattle.steps.specs.declared.Refusal.{Refusal}
-use Rattle.steps.specs.declared.Verdict.{Verdict}
+use Rattle.soundness.proofs.Facts.{Sound}
+use Rattle.requests.specs.declared.{Refusal.Refusal, Verdict.Verdict, Request.Request}
+use Rattle.requests.specs.Premises.{verdict, Passes}
+use Rattle.requests.specs.Requests.{lastStep}
+use Rattle.requests.proofs.Verdicts.{fails, fails-not}
+use Rattle.heads.specs.declared.Decision.{Decision}
+use Rattle.heads.specs.Decisions.{Step, settled, isFound, placeOf}
 use Rattle.steps.specs.declared.Sought.{Sought}
-use Rattle.steps.specs.declared.Request.{Request}
-use Rattle.steps.specs.declared.Decision.{Decision}
-use Rattle.steps.specs.Premises.{verdict, Passes, Step, settled}
-use Rattle.steps.specs.Requests.{lastStep}
-use Rattle.steps.specs.Steps.{isFound, placeOf}
 use Rattle.steps.specs.Decide.{unknown, steps, sought}
-use Rattle.lock.specs.Words.{among}
 use Rattle.lock.specs.Step.{edited, lookFor}
-use Rattle.lock.proofs.Passes.{fails, fails-not}
 
 -- ---- a decision
 -- what a decision leaves is sound

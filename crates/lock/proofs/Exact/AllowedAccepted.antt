@@ -6,33 +6,30 @@ use mathlib.Core.Path.{_≡_, refl, sym, ap, _∙_}
 use mathlib.Core.Bool.{Bool, true, false, cond}
 use mathlib.Core.List.{List, [], _∷_, _++_}
 use native.Mathlib.Omega.{arith}
+use borrow.Author.Tests.{lt-ltb, lt-leb, eq-eqb}
 use lib.Dec.{T, eqb, ltb→lt}
 use lib.ListN.{length}
 use lib.Seq.{set-append-seam}
-use borrow.Author.Tests.{lt-ltb, lt-leb, eq-eqb}
+use Rattle.laws.proofs.Lists.{without-split}
+use Rattle.kinds.specs.declared.{Bucket.Bucket, MaybeBucket.MaybeBucket, Storage.Storage, Reader.Reader}
+use Rattle.kinds.specs.declared.{LoadingState.LoadingState}
 use Rattle.kinds.specs.Limits.{buckets, ceiling, capacity}
-use Rattle.kinds.specs.declared.Bucket.{Bucket}
-use Rattle.kinds.specs.declared.MaybeBucket.{MaybeBucket}
-use Rattle.kinds.specs.declared.Storage.{Storage}
-use Rattle.kinds.specs.declared.Reader.{Reader}
-use Rattle.kinds.specs.declared.LoadingState.{LoadingState}
 use Rattle.readers.specs.Listed.{findIn}
-use Rattle.readers.proofs.Lists.{without-split}
 use Rattle.page_record.specs.declared.Head.{Head}
-use Rattle.page_record.specs.Holders.{isLoaded}
-use Rattle.page_record.specs.Pages.{numberAt}
-use Rattle.page_record.specs.Facts.{Sound}
-use Rattle.page_record.specs.Shapes as Shapes
-use Rattle.steps.specs.declared.Request.{Request}
-use Rattle.steps.specs.declared.Decision.{Decision}
-use Rattle.steps.specs.Premises.{decided}
-use Rattle.steps.specs.Setters.{withNumber, raise, lower}
-use Rattle.steps.specs.Steps.{sharedDecCount}
+use Rattle.page_record.specs.Holders.{isLoading}
+use Rattle.page_record.specs.Pages.{numberAt, headWith}
+use Rattle.soundness.proofs.Facts.{Sound}
+use Rattle.requests.specs.declared.Request.{Request}
+use Rattle.heads.specs.declared.Decision.{Decision}
+use Rattle.heads.specs.Decisions.{decided}
+use Rattle.heads.specs.Setters.{withNumber, raise, lower}
+use Rattle.reading.specs.Steps.{sharedDecCount}
 use Rattle.lock.specs.Step.{edited, lookFor, decidedOn}
-use Rattle.lock.specs.Moves.{Moves, Field, stateWith, countOf, Elsewhere, Absent, Only, Room, answerOf, obtained, pending, pending2}
-use Rattle.lock.proofs.MoveLaws.{Accepts, stepNo, by-number, is-expected, find-first, is-set}
-use Rattle.lock.proofs.MoveFlags.{is-released, is-claimed, is-awaited, done, lock-flag, is-open, unloaded}
-use Rattle.lock.proofs.MoveFacts.{granted}
+use Rattle.lock.specs.Moves.{Moves, Field, stateWith, countOf, Elsewhere, Absent, Only, Room, answerOf, obtained}
+use Rattle.lock.specs.Moves.{pending, pending2}
+use Rattle.lock.proofs.Exact.Laws.{Accepts, stepNo, by-number, is-expected, find-first, is-set}
+use Rattle.lock.proofs.Exact.Flags.{is-released, is-claimed, is-awaited, done, lock-flag, is-open, unloaded}
+use Rattle.lock.proofs.Exact.Granted.{granted}
 
 -- ---- a decision's parts, one by one
 record Parts (d : Decision) (l : List Reader) (h′ : Head) (l′ : List Reader) (out : Storage) : Type 0 where
@@ -49,7 +46,7 @@ took : {d : Decision} {l : List Reader} {h′ : Head} {l′ : List Reader} {out 
     → Parts d l h′ l′ out → Accepts d l h′ l′ out
 took p = record {
   answer = p .answer;
-  head = λ i. Shapes.headWith (p .storage i) (p .flag i) (p .counts i) (p .exc i) (p .loading i) (p .writeback i);
+  head = λ i. headWith (p .storage i) (p .flag i) (p .counts i) (p .exc i) (p .loading i) (p .writeback i);
   list = p .list;
 }
 
@@ -79,10 +76,10 @@ module _ (h : Head) (l : List Reader) (q : Request) (h′ : Head) (l′ : List R
       one-less e = recounted (numberAt (h .«ref_counts») (b .0) - 1) (rw was e)
 
   -- a loader's bucket is one of the four
-  loaded-below : (b : Bucket) → h .«loading_state» ≡ LoadingState.Obtained (MaybeBucket.At b) → b .0 < buckets
-  loaded-below b e =
-      let t : T (isLoaded (h .«loading_state»)) = rw e tt in
-      ltb→lt (b .0) buckets (rw e at (granted h (s .head) .loaded t .1))
+  loading-below : (b : Bucket) → h .«loading_state» ≡ LoadingState.Obtained (MaybeBucket.At b) → b .0 < buckets
+  loading-below b e =
+      let t : T (isLoading (h .«loading_state»)) = rw e tt in
+      ltb→lt (b .0) buckets (rw e at (granted h (s .head) .loading t .1))
 
   -- 20 to 22: the reader x leaves
   leaves : (x : Reader) (n : ℕ) (before after : List Reader)
@@ -146,7 +143,7 @@ module _ (h : Head) (l : List Reader) (q : Request) (h′ : Head) (l′ : List R
       let free : length l < capacity = room .free (rw step tt) in
       step-is 16 step (rw (remove .0, require, lt-leb capacity (length l) free) (took (search)))
   takes (Moves.deposit-loading-to-done bucket some n step remove require update deposit was as-nat is elsewhere only) room =
-      let below : some .0 < buckets = loaded-below some (remove .0 ∙ ap LoadingState.Obtained require) in
+      let below : some .0 < buckets = loading-below some (remove .0 ∙ ap LoadingState.Obtained require) in
       let counts = one-less some below elsewhere n was is in
       step-is 17 step (rw (remove .0, require) (took (search)))
   takes (Moves.exc-inc-count none clean n step below remove require was add is elsewhere only) room =
