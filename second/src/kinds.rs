@@ -10,7 +10,7 @@ pub const RC_WIDTH: u8 = 4;
 pub const CEILING: Count = Count(31);
 
 /// How many readers the list holds.
-pub const LIST_ROOM: usize = 64;
+pub const CAPACITY: usize = 64;
 
 /// What the lock's word shows; the order gives the numbers 0 to 10.
 #[derive(Clone, Copy, Debug, PartialEq, Eq)]
@@ -30,6 +30,21 @@ pub enum Flag {
 }
 
 impl Flag {
+    /// All flags, each at the place of its number.
+    pub const ALL: [Flag; 11] = [
+        Flag::Unmapped,
+        Flag::Loading,
+        Flag::LoadingExcLock,
+        Flag::Available,
+        Flag::Claimed,
+        Flag::Writeback,
+        Flag::WritebackAndClaimed,
+        Flag::WritebackAndPendingExcLock,
+        Flag::PendingExcLock,
+        Flag::ExcLockClean,
+        Flag::ExcLockDirty,
+    ];
+
     /// The flag's number, 0 to 10.
     pub fn number(self) -> u8 {
         self as u8
@@ -86,6 +101,11 @@ pub enum SharedState {
 }
 
 impl SharedState {
+    /// What stands in a place that no reader has.
+    pub const BLANK: SharedState = SharedState::Pending {
+        bucket: BucketId(0),
+    };
+
     /// The bucket that the reader is counted at.
     pub fn bucket(self) -> BucketId {
         match self {

@@ -3,11 +3,16 @@
 //! It was written from the rules and from the source model
 //! `examples/scache/rwlock.rs` (MIT) alone, and uses the source's names. Its
 //! purpose is comparison: two programs made apart from each other should give
-//! the same answers, byte for byte. `WALKS.md` says what is compared.
+//! the same answers, byte for byte. `ops` makes streams of operations, and
+//! `drill` does them; whatever stream goes in, both drills must write the same.
 
+pub mod drill;
 pub mod kinds;
+pub mod ops;
+pub mod raw;
+pub mod readers;
 pub mod record;
 pub mod run;
 pub mod steps;
-pub mod walks;
 pub mod wire;
+pub mod words;

@@ -2,11 +2,12 @@
 
 use crate::kinds::{
     BucketId, Count, ExcState, Flag, LoadingState, Refusal, SharedState, StoredType, Visited,
-    WritebackState, CEILING, LIST_ROOM, RC_WIDTH,
+    WritebackState, CAPACITY, CEILING, RC_WIDTH,
 };
+use crate::readers::Readers;
 
-/// The record of one page. The list has no fixed length here, so that a list
-/// that is too long can be written down and judged.
+/// The record of one page. Every field takes whatever its bytes can say, so
+/// that a record that is not sound can be held and judged.
 #[derive(Clone, Debug, PartialEq, Eq)]
 pub struct Page {
     /// The value behind the lock, or `None` while it is out.
@@ -16,7 +17,7 @@ pub struct Page {
     /// The four counts.
     pub ref_counts: [Count; RC_WIDTH as usize],
     /// The readers, the newest last.
-    pub shared_state: Vec<SharedState>,
+    pub shared_state: Readers,
     /// The exclusive holder, if there is one.
     pub exc_state: Option<ExcState>,
     /// The loader, if there is one.
@@ -31,7 +32,7 @@ pub fn fresh(value: StoredType) -> Page {
         storage: Some(value),
         flag: Flag::Unmapped,
         ref_counts: [Count(0); RC_WIDTH as usize],
-        shared_state: Vec::new(),
+        shared_state: Readers::none(),
         exc_state: None,
         loading_state: None,
         writeback_state: None,
@@ -138,19 +139,24 @@ pub fn flag_invariant(page: &Page) -> bool {
 /// Rule 7: every listed reader is valid.
 pub fn shared_storage_invariant(page: &Page) -> bool {
     page.shared_state
+        .listed()
         .iter()
         .all(|&reader| shared_state_valid(page, reader))
 }
 
-/// Rule 8: everything is within its limits. Past the length there is nothing
-/// in this record's list, so that there is nothing to be blank.
+/// Rule 8: everything is within its limits, and blank past the length.
 pub fn limits(page: &Page) -> bool {
-    page.shared_state.len() <= LIST_ROOM
+    let readers = &page.shared_state;
+    usize::from(readers.length) <= CAPACITY
         && page.ref_counts.iter().all(|count| count.0 <= CEILING.0)
-        && page
-            .shared_state
+        && readers
+            .listed()
             .iter()
             .all(|reader| reader.bucket().valid())
+        && readers
+            .past()
+            .iter()
+            .all(|&entry| entry == SharedState::BLANK)
         && valid_bucket(page.exc_state.and_then(ExcState::bucket))
         && valid_bucket(page.loading_state.and_then(LoadingState::bucket))
         && match page.exc_state {
@@ -195,7 +201,7 @@ pub fn judge_record(page: &Page) -> Result<(), Refusal> {
 pub fn census(page: &Page) -> [[Count; 3]; RC_WIDTH as usize] {
     let mut rows = [[Count(0); 3]; RC_WIDTH as usize];
     if sound(page) {
-        for reader in &page.shared_state {
+        for reader in page.shared_state.listed() {
             rows[reader.bucket().index()][reader.phase()].0 += 1;
         }
     }
@@ -212,6 +218,7 @@ fn valid_visited(visited: Visited) -> bool {
 
 fn count_shared_refs(page: &Page, bucket: BucketId) -> usize {
     page.shared_state
+        .listed()
         .iter()
         .filter(|reader| reader.bucket() == bucket)
         .count()
@@ -225,7 +232,8 @@ fn count_loading_refs(page: &Page, bucket: BucketId) -> usize {
     usize::from(page.loading_state.and_then(LoadingState::bucket) == Some(bucket))
 }
 
-fn count_all_refs(page: &Page, bucket: BucketId) -> usize {
+/// How many references to the bucket there are, of readers and holders.
+pub fn count_all_refs(page: &Page, bucket: BucketId) -> usize {
     count_shared_refs(page, bucket)
         + count_exc_refs(page, bucket)
         + count_loading_refs(page, bucket)

@@ -3,7 +3,7 @@
 
 use crate::kinds::{
     Answer, BucketId, Count, ExcState, Flag, LoadingState, Refusal, Request, SharedState,
-    StoredType, Visited, WritebackState, CEILING, LIST_ROOM,
+    StoredType, Visited, WritebackState, CAPACITY, CEILING,
 };
 use crate::record::{judge_record, Page};
 
@@ -369,17 +369,17 @@ fn shared_check_exc(page: &mut Page, bucket: BucketId) -> Answer {
     );
     allow(passes, Refusal::WrongFlag)?;
     let place = find(page, SharedState::Pending { bucket })?;
-    page.shared_state[place] = SharedState::Pending2 { bucket };
+    page.shared_state
+        .change(place, SharedState::Pending2 { bucket });
     Ok(None)
 }
 
 fn shared_check_loading(page: &mut Page, bucket: BucketId) -> Answer {
     allow(page.flag != Flag::Loading, Refusal::WrongFlag)?;
     let place = find(page, SharedState::Pending2 { bucket })?;
-    page.shared_state[place] = SharedState::Obtained {
-        bucket,
-        value: stored(page),
-    };
+    let value = stored(page);
+    page.shared_state
+        .change(place, SharedState::Obtained { bucket, value });
     Ok(None)
 }
 
@@ -405,6 +405,7 @@ fn claimed(flag: Flag) -> Result<Flag, Refusal> {
 /// The place of the first equal reader.
 fn find(page: &Page, reader: SharedState) -> Result<usize, Refusal> {
     page.shared_state
+        .listed()
         .iter()
         .position(|&listed| listed == reader)
         .ok_or(Refusal::NoHolder)
@@ -439,7 +440,10 @@ fn count_room(page: &Page, bucket: BucketId) -> Result<(), Refusal> {
 }
 
 fn list_room(page: &Page) -> Result<(), Refusal> {
-    allow(page.shared_state.len() < LIST_ROOM, Refusal::ListFull)
+    allow(
+        page.shared_state.listed().len() < CAPACITY,
+        Refusal::ListFull,
+    )
 }
 
 // Shared changes.

@@ -9,7 +9,7 @@ pub const RECORD: usize = 16;
 /// Reads one request: refuses 12, then 2 to 4.
 pub fn read_request(bytes: &[u8]) -> Result<Request, Refusal> {
     let line: &[u8; RECORD] = bytes.try_into().map_err(|_| Refusal::NotWhole)?;
-    let request = Request::new(line[0], line[1], line[2], read_value(line));
+    let request = Request::new(line[0], line[1], line[2], value_at(line, 8));
     judge_step(&request)?;
     judge_blank(line)?;
     judge_unused(&request)?;
@@ -44,15 +44,15 @@ pub fn answer_bytes(answer: &Answer) -> [u8; RECORD] {
 pub fn read_answer(line: &[u8; RECORD]) -> Option<Answer> {
     let answer = match (line[0], line[1]) {
         (0, 0) => Ok(None),
-        (0, _) => Ok(Some(read_value(line))),
+        (0, _) => Ok(Some(value_at(line, 8))),
         (number, _) => Err(refusal(number)?),
     };
     (answer_bytes(&answer) == *line).then_some(answer)
 }
 
-/// Bytes 8 to 15, low byte first.
-fn read_value(line: &[u8; RECORD]) -> StoredType {
-    line[8..]
+/// The value in the eight bytes from this place on, low byte first.
+pub fn value_at(bytes: &[u8], place: usize) -> StoredType {
+    bytes[place..place + 8]
         .iter()
         .rev()
         .fold(0, |value, &byte| value << 8 | StoredType::from(byte))

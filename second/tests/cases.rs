@@ -88,7 +88,7 @@ fn case_b() -> Page {
         bucket: BucketId(1),
         value: 5,
     };
-    assert_eq!(page.shared_state, [reader]);
+    assert_eq!(page.shared_state.listed(), [reader]);
     page
 }
 
@@ -145,7 +145,7 @@ fn case_d() -> Page {
             line(plain(8), Ok(Some(5)), Dirty, own, None),
         ],
     );
-    assert!(page.shared_state.is_empty());
+    assert!(page.shared_state.listed().is_empty());
     page
 }
 
@@ -193,7 +193,7 @@ fn e() {
         bucket: BucketId(1),
         value: 6,
     };
-    assert_eq!(page.shared_state, [reader]);
+    assert_eq!(page.shared_state.listed(), [reader]);
     assert_eq!(page.exc_state, None);
 }
 

@@ -1,12 +1,15 @@
 //! Every refusal of a step, and that the lowest number is the one given.
 
+mod common;
+
+use common::{walks, Asked};
 use second::kinds::{
     answer_number, Answer, BucketId, ExcState, Flag, LoadingState, Refusal, Request, SharedState,
-    StoredType, CEILING, LIST_ROOM,
+    StoredType, CAPACITY, CEILING,
 };
-use second::record::{fresh, Page};
+use second::ops::{stream, Plan};
+use second::record::{fresh, sound, Page};
 use second::steps::step;
-use second::walks::{Walk, PLANS};
 use second::wire::read_request;
 
 /// The record after these accepted steps (step, bucket, clean, value).
@@ -266,11 +269,14 @@ fn the_first_equal_reader_is_the_one() {
         (23, 1, 0, 0),
     ]);
     assert_eq!(
-        page.shared_state,
+        page.shared_state.listed(),
         [pending(0), pending2(1), pending(0), pending(1)]
     );
     let page = step(page, &Request::new(20, 0, 0, 0)).page;
-    assert_eq!(page.shared_state, [pending2(1), pending(0), pending(1)]);
+    assert_eq!(
+        page.shared_state.listed(),
+        [pending2(1), pending(0), pending(1)]
+    );
 }
 
 /// Whether the refusal of this number (2 to 11) applies, told from the table of
@@ -287,7 +293,7 @@ fn applies(number: u8, page: &Page, request: &Request) -> bool {
         8 => visited(page).is_some_and(|v| asked == 7 && v == 4 || asked == 8 && v != 4),
         9 => asked == 7 && other_count(page),
         10 => [13, 18, 19].contains(&asked) && count(page, request.bucket) == CEILING.0,
-        11 => [9, 16, 19].contains(&asked) && page.shared_state.len() == LIST_ROOM,
+        11 => [9, 16, 19].contains(&asked) && page.shared_state.listed().len() == CAPACITY,
         _ => false,
     }
 }
@@ -337,7 +343,7 @@ fn flags(asked: u8) -> Vec<Flag> {
 fn holder(page: &Page, request: &Request) -> bool {
     let bucket = BucketId(request.bucket);
     let value = request.value;
-    let lists = |reader| page.shared_state.contains(&reader);
+    let lists = |reader| page.shared_state.listed().contains(&reader);
     match request.step {
         2 => page.writeback_state.is_some(),
         4 | 22 => lists(SharedState::Obtained { bucket, value }),
@@ -392,37 +398,30 @@ fn lowest(page: &Page, request: &Request) -> u8 {
         .unwrap_or(0)
 }
 
+/// The requests of a stream that meet a sound page.
+fn asked(seed: u64) -> impl Iterator<Item = Asked> {
+    let requests = 4_000;
+    let walks = walks(&stream(&Plan { seed, requests }));
+    let asked = walks.into_iter().flat_map(|walk| walk.asked);
+    asked.filter(|asked| sound(&asked.before))
+}
+
 #[test]
-fn walks_give_the_lowest_number_that_applies() {
-    for plan in &PLANS {
-        for seed in 1..=20 {
-            let mut walk = Walk::new(plan.mix, seed);
-            for _ in 0..plan.length {
-                let bytes = walk.next_request();
-                if let Ok(request) = read_request(&bytes) {
-                    let expected = lowest(walk.page(), &request);
-                    assert_eq!(answer_number(&walk.answer(&bytes)), expected);
-                } else {
-                    let _ = walk.answer(&bytes);
-                }
-            }
+fn streams_give_the_lowest_number_that_applies() {
+    for asked in (1..=8).flat_map(asked) {
+        if let Ok(request) = read_request(&asked.bytes) {
+            let expected = lowest(&asked.before, &request);
+            assert_eq!(answer_number(&asked.answer), expected);
         }
     }
 }
 
 #[test]
 fn every_request_on_many_records_gets_the_lowest_number() {
-    for plan in &PLANS {
-        for seed in 1..=3 {
-            let mut walk = Walk::new(plan.mix, seed);
-            for _ in 0..60 {
-                for request in all_small_requests(walk.page().storage) {
-                    let answer = step(walk.page().clone(), &request).answer;
-                    assert_eq!(answer_number(&answer), lowest(walk.page(), &request));
-                }
-                let bytes = walk.next_request();
-                let _ = walk.answer(&bytes);
-            }
+    for Asked { before, .. } in asked(9).step_by(20) {
+        for request in all_small_requests(before.storage) {
+            let answer = step(before.clone(), &request).answer;
+            assert_eq!(answer_number(&answer), lowest(&before, &request));
         }
     }
 }

@@ -4,21 +4,8 @@ use second::kinds::{
     BucketId, Count, ExcState, Flag, LoadingState, Refusal, SharedState, StoredType, Visited,
     WritebackState,
 };
+use second::readers::Readers;
 use second::record::{census, fresh, judge_record, lowest_broken_rule, sound, Page};
-
-const FLAGS: [Flag; 11] = [
-    Flag::Unmapped,
-    Flag::Loading,
-    Flag::LoadingExcLock,
-    Flag::Available,
-    Flag::Claimed,
-    Flag::Writeback,
-    Flag::WritebackAndClaimed,
-    Flag::WritebackAndPendingExcLock,
-    Flag::PendingExcLock,
-    Flag::ExcLockClean,
-    Flag::ExcLockDirty,
-];
 
 const VALUE: StoredType = 7;
 
@@ -55,6 +42,14 @@ fn obtained(bucket: Option<BucketId>, clean: bool) -> ExcState {
 
 const WRITEBACK: WritebackState = WritebackState { value: VALUE };
 
+fn list(readers: &[SharedState]) -> Readers {
+    let mut list = Readers::none();
+    for &reader in readers {
+        list.push(reader);
+    }
+    list
+}
+
 /// A record of these holders, its storage and counts made to fit.
 fn record(
     flag: Flag,
@@ -70,7 +65,7 @@ fn record(
         exc_state,
         loading_state,
         writeback_state,
-        shared_state: readers.to_vec(),
+        shared_state: list(readers),
         ..fresh(VALUE)
     };
     let buckets = readers.iter().map(|reader| reader.bucket());
@@ -115,7 +110,7 @@ fn each_set_of_holders_has_its_flags() {
         Some(LoadingState::Obtained { bucket: at(3) }),
         Some(LoadingState::Obtained { bucket: None }),
     ];
-    for flag in FLAGS {
+    for flag in Flag::ALL {
         for exc_state in exc_states {
             for loading_state in loading_states {
                 for writeback_state in [None, Some(WRITEBACK)] {
@@ -344,17 +339,65 @@ fn crowd(numbers: [usize; 4]) -> Page {
 }
 
 #[test]
-fn rule_8() {
+fn rule_8_counts() {
     assert!(sound(&crowd([31, 31, 2, 0])));
-    assert!(sound(&crowd([16, 16, 16, 16])));
-    broken(&crowd([31, 31, 3, 0]), 8);
-    broken(&crowd([17, 16, 16, 16]), 8);
     for bucket in 0..4 {
         let mut numbers = [0; 4];
         numbers[bucket] = 31;
         assert!(sound(&crowd(numbers)));
         numbers[bucket] = 32;
         broken(&crowd(numbers), 8);
+    }
+}
+
+/// A length above the capacity lists all places and no more.
+#[test]
+fn rule_8_length() {
+    let mut page = crowd([16, 16, 16, 16]);
+    assert!(sound(&page));
+    for length in [65, 66, 255, 256, 65_535] {
+        page.shared_state.length = length;
+        assert_eq!(page.shared_state.listed().len(), 64);
+        assert!(page.shared_state.past().is_empty());
+        broken(&page, 8);
+    }
+    page.shared_state.length = 63;
+    broken(&page, 5);
+    let mut page = fresh(VALUE);
+    page.shared_state.length = 65;
+    broken(&page, 5);
+}
+
+#[test]
+fn rule_8_blanks() {
+    let other = [
+        SharedState::Pending {
+            bucket: BucketId(1),
+        },
+        SharedState::Pending {
+            bucket: BucketId(255),
+        },
+        SharedState::Pending2 {
+            bucket: BucketId(0),
+        },
+        SharedState::Obtained {
+            bucket: BucketId(0),
+            value: 0,
+        },
+        SharedState::Obtained {
+            bucket: BucketId(0),
+            value: VALUE,
+        },
+    ];
+    for readers in [0, 1, 30] {
+        for entry in other {
+            for place in [readers, readers + 1, 63] {
+                let mut page = crowd([0, readers, 0, 0]);
+                assert!(sound(&page));
+                page.shared_state.entries[place] = entry;
+                broken(&page, 8);
+            }
+        }
     }
 }
 

@@ -1,49 +1,38 @@
--- Demand 2, proved: the lock's `exact`, with soundness and form as premises; for a line of a run, both come from the run; and
--- the round trips of `wire`. Assumes nothing.
+-- Demand 2, proved: the lock's `exact`; for a line of a run, by the page that the requests before it left; and the round trips of
+-- `wire`. Assumes nothing.
 use Prim.Native.Nat.{ℕ}
 use mathlib.Core.Path.{_≡_, ap, sym, _∙_}
 use mathlib.Core.List.{List, [], _∷_}
 use native.Mathlib.Omega.{arith}
-use lib.ListN.{length, take}
-use Rattle.kinds.specs.Limits.{recordSize}
-use Rattle.readers.proofs.Tests.{is-true}
-use Rattle.steps.specs.declared.Answer.{Answer}
-use Rattle.steps.specs.declared.Request.{Request}
-use Rattle.steps.specs.declared.Verdict.{Verdict}
-use Rattle.steps.specs.Premises.{verdict}
-use Rattle.steps.specs.Requests.{formal, judged}
+use lib.ListN.{length}
+use Rattle.kinds.specs.Limits.{lineSize}
+use Rattle.requests.specs.declared.{Answer.Answer, Request.Request, Verdict.Verdict}
+use Rattle.requests.specs.Premises.{verdict}
+use Rattle.requests.specs.Requests.{formal, judged}
 use Rattle.lock.proofs.Exact.{exact}
 use Rattle.wire.specs.declared.Reading.{Reading}
 use Rattle.wire.specs.Buffers.{room}
 use Rattle.wire.specs.Requests.{InRange, bytesOf, readOf, writable, wroteAnswer, wroteTo}
+use Rattle.wire.specs.Bytes.{Bytes}
 use Rattle.wire.proofs.Buffers.{put-fits, put-whole, write-first}
-use Rattle.wire.proofs.Bytes.{Bytes}
 use Rattle.wire.proofs.Premises.{answer-passed, holds-before, write-granted}
 use Rattle.wire.proofs.Trips.{accepted, in-range, write-read, read-write, accepts-written}
-use Rattle.replay.specs.Run.{requestsOf, recordAt, pageAt}
-use Rattle.replay.proofs.Whole.{accepted-has}
+use Rattle.replay.specs.Run.{lineAt, pageAt}
 use Rattle.replay.proofs.Pages.{turn-read}
 use Rattle.demands.specs.Demand2.{Demand2, Demand2Run, Demand2Bytes}
-use Rattle.demands.proofs.Kept.{run-keeps}
 
 pub demand2 : Demand2
-demand2 p p′ q out sound formed = (
-  λ e. let a = exact p p′ q out .0 e in record { moves = a .moves; room = a .room; neat = a .neat },
-  λ m. exact p p′ q out .1 (record { sound = sound; well-formed = formed; moves = m .moves; room = m .room; neat = m .neat }),
-)
+demand2 = exact
 
 -- the line is answered as the step from the page that the requests before it left
 pub demand2-run : Demand2Run
-demand2-run p requests answers e k h q read p′ out =
-    let start = is-true (accepted-has p requests answers e .sound) in
-    let sound = run-keeps p (take k (requestsOf requests)) start in
-    let fits = accepted (recordAt k requests) q read .fits in
-    let turn = turn-read (pageAt k p requests) (recordAt k requests) q read in
-    let exactly = demand2 (pageAt k p requests) p′ q out sound fits in
+demand2-run p requests k q read p′ out =
+    let turn = turn-read (pageAt k p requests) (lineAt k requests) q read in
+    let exactly = demand2 (pageAt k p requests) p′ q out in
     (λ f. exactly .0 (sym turn ∙ f), λ m. turn ∙ exactly .1 m)
 
 -- ---- bytes
-module _ (l buffer : List ℕ) (q : Request) (bytes : Bytes l) (sixteen : length buffer ≡ recordSize) where
+module _ (l buffer : List ℕ) (q : Request) (bytes : Bytes l) (sixteen : length buffer ≡ lineSize) where
   -- what fits is written: into sixteen bytes, so that nothing of the buffer is left
   written : judged q ≡ Verdict.Passed → (Answer.Accepted ≡ wroteAnswer q buffer) × (bytesOf q ≡ wroteTo q buffer)
   unfolding bytesOf

@@ -1,32 +1,35 @@
--- Demand 3, proved: the history tells of counts, storage and the values handed out (proofs/Told.antt); soundness carries
--- storage's value to every holder, and shuts readers and the archive out while the page is out. Assumes nothing.
-use Prim.Native.Nat.{ℕ}
+-- Demand 3, proved from any sound page (`demand3-from`): the history tells of counts, storage and the values handed out
+-- (proofs/Told.antt); soundness carries storage's value to every holder, and shuts readers and the archive out while the page is
+-- out. A fresh page is one to start from (`demand3`), and what it starts with is plain (`fresh-start`, `counted-fresh`). Assumes
+-- nothing.
+use Prim.Native.Nat.{ℕ, zero, suc, _+_, _<_}
 use mathlib.Core.Path.{_≡_, refl, ap, _∙_}
 use mathlib.Core.Bool.{Bool, true, false, not, cond, _&&_, _||_}
 use mathlib.Core.List.{List, []}
 use native.Mathlib.Omega.{arith}
 use lib.Dec.{T, eqb}
-use Rattle.kinds.specs.declared.Phase.{Phase}
-use Rattle.kinds.specs.declared.Reader.{Reader}
-use Rattle.kinds.specs.declared.Storage.{Storage}
-use Rattle.kinds.specs.declared.WritebackState.{WritebackState}
+use lib.ListN.{replicate}
+use Rattle.laws.proofs.Lists.{every-at}
+use Rattle.kinds.specs.declared.{Phase.Phase, Reader.Reader, Storage.Storage, WritebackState.WritebackState}
+use Rattle.kinds.specs.declared.{MaybeBucket.MaybeBucket}
 use Rattle.kinds.specs.Limits.{buckets}
 use Rattle.kinds.specs.Numbers.{phaseNumber}
 use Rattle.readers.specs.Listed.{live, blankReader}
-use Rattle.readers.proofs.Lists.{every-at}
-use Rattle.page_record.specs.declared.Head.{Head}
-use Rattle.page_record.specs.declared.Page.{Page}
+use Rattle.page_record.specs.declared.{Head.Head, Page.Page}
 use Rattle.page_record.specs.Holders.{isStored, isPending, isEditing, excVisited, excValue}
-use Rattle.page_record.specs.Pages.{headOf, freshPage}
-use Rattle.page_record.specs.Facts.{Sound}
-use Rattle.page_record.proofs.Shapes.{is-holding}
-use Rattle.page_record.proofs.Known.{known, hold-iff, valid-phase, readerPending, listed-valid, closed-pending}
-use Rattle.page_record.proofs.FreshPage.{fresh-sound}
-use Rattle.page_record.proofs.Tested.{facts}
-use Rattle.steps.specs.declared.Request.{Request}
-use Rattle.demands.specs.History.{Event, after, history, lastPut, lastWithdrew}
+use Rattle.page_record.specs.Pages.{headOf, numberAt, freshPage}
+use Rattle.page_record.proofs.Inversions.{is-holding}
+use Rattle.soundness.specs.Soundness.{soundOf}
+use Rattle.soundness.proofs.Facts.{Sound}
+use Rattle.soundness.proofs.Known.{known, hold-iff, valid-phase, readerPending, listed-valid, closed-pending}
+use Rattle.soundness.proofs.FreshPage.{fresh-sound}
+use Rattle.soundness.proofs.Tested.{facts}
+use Rattle.requests.specs.declared.Request.{Request}
+use Rattle.demands.specs.History.{Event, Start, startOf, after, history, arrivals, departures, lastPut}
+use Rattle.demands.specs.History.{lastWithdrew, HandOuts}
 use Rattle.demands.specs.Demand3.{Listed, Demand3}
-use Rattle.demands.proofs.Told.{ToldOf, put-in, tells, fresh-told}
+use Rattle.demands.proofs.Told.{ToldOf, put-in, tells, start-told}
+use Rattle.demands.proofs.HandOuts.{history-hands}
 use Rattle.demands.proofs.Kept.{sound-after}
 
 -- ---- what is used of tests
@@ -40,17 +43,18 @@ first-is Phase.Pending2 t = absurd t
 first-is (Phase.Obtained v) t = absurd t
 
 -- ---- the demand, from soundness and what is told
-module _ (fresh : ℕ) (p : Page) (past : List Event) (s : Sound (headOf p) (live (p .readers))) (told : ToldOf fresh (headOf p) past) where
+module _ (start : Start) (p : Page) (past : List Event) (s : Sound (headOf p) (live (p .readers)))
+    (told : ToldOf start (headOf p) past) (hands : HandOuts past) where
   abbrev h : Head
   h = headOf p
 
-  was-put : (v : ℕ) → p .storage ≡ Storage.In v → v ≡ lastPut fresh past
-  was-put = put-in fresh (p .storage) past (told .stored)
+  was-put : (v : ℕ) → p .storage ≡ Storage.In v → v ≡ lastPut start past
+  was-put = put-in start (p .storage) past (told .stored)
 
-  out-is : isStored (p .storage) ≡ not (lastWithdrew past)
-  out-is = ap isStored (told .stored) ∙ go (lastWithdrew past)
+  out-is : isStored (p .storage) ≡ not (lastWithdrew start past)
+  out-is = ap isStored (told .stored) ∙ go (lastWithdrew start past)
     where
-      go : (t : Bool) → isStored (cond t Storage.Out (Storage.In (lastPut fresh past))) ≡ not t
+      go : (t : Bool) → isStored (cond t Storage.Out (Storage.In (lastPut start past))) ≡ not t
       go true = refl
       go false = refl
 
@@ -74,7 +78,7 @@ module _ (fresh : ℕ) (p : Page) (past : List Event) (s : Sound (headOf p) (liv
       let closed = or-left (isEditing e) (isPending e && eqb (excVisited e .0) buckets) t in
       rw (at .stands) at (every-at readerPending l (at .place) blankReader (closed-pending s closed) (at .below))
 
-  pub demanded : Demand3 fresh p past
+  pub demanded : Demand3 start p past
   demanded = record {
     counted = λ b k. told .balance b;
     referred = s .counts;
@@ -84,14 +88,37 @@ module _ (fresh : ℕ) (p : Page) (past : List Event) (s : Sound (headOf p) (liv
     claimed = λ t. was-put (excValue (p .«exc_state»)) (known s .claimant-in t);
     written = λ v e. was-put v (known s .archive-in v e);
     returned = told .handed;
+    returns = hands;
     unread = λ o r at v e. apart v o (reads r at v e);
     unwritten = idle (p .«writeback_state») refl;
     alone = λ t r at. first-is (r .phase) (shut r at t);
   }
 
--- ---- from a fresh page, after any requests
-pub demand3 : (fresh : ℕ) (qs : List Request) → Demand3 fresh (after (freshPage fresh) qs) (history (freshPage fresh) qs [])
-demand3 fresh qs =
-    let p = freshPage fresh in
-    let sound = fresh-sound fresh in
-    demanded fresh (after p qs) (history p qs []) (facts (after p qs) (sound-after p qs sound) .parts) (tells fresh p [] qs sound (fresh-told fresh))
+-- ---- from any sound page, after any requests
+pub demand3-from : (p : Page) → T (soundOf p) → (qs : List Request) → Demand3 (startOf p) (after p qs) (history p qs [])
+demand3-from p sound qs =
+    demanded (startOf p) (after p qs) (history p qs []) (facts (after p qs) (sound-after p qs sound) .parts)
+    (tells (startOf p) p [] qs sound (start-told p)) (history-hands p qs [] tt)
+
+-- ---- from a fresh page
+-- nothing has come, this value was put in, the page is in, and nobody loads
+pub fresh-start : (v : ℕ) → startOf (freshPage v) ≡ record { counts = λ b. 0; value = v; out = false; loader = MaybeBucket.None }
+unfolding freshPage
+fresh-start v = λ i. record { counts = λ b. none b i; value = v; out = false; loader = MaybeBucket.None }
+  where
+    none : (b : ℕ) → numberAt (replicate buckets (record { 0 = 0 })) b ≡ 0
+    none zero = refl
+    none (suc zero) = refl
+    none (suc (suc zero)) = refl
+    none (suc (suc (suc zero))) = refl
+    none (suc (suc (suc (suc b)))) = refl
+
+pub demand3 : (v : ℕ) (qs : List Request)
+    → Demand3 (startOf (freshPage v)) (after (freshPage v) qs) (history (freshPage v) qs [])
+demand3 v = demand3-from (freshPage v) (fresh-sound v)
+
+-- each bucket's count is its accepted arrivals less departures
+pub counted-fresh : (v : ℕ) (p : Page) (past : List Event) → Demand3 (startOf (freshPage v)) p past → (b : ℕ) → b < buckets
+    → numberAt (p .«ref_counts») b + departures (startOf (freshPage v)) b past ≡ arrivals b past
+counted-fresh v p past d b k =
+    omega (arith, d .counted b k, ap (λ (s : Start). s .counts b) (fresh-start v))

@@ -4,8 +4,8 @@ use mathlib.Core.Path.{_≡_, refl}
 use mathlib.Core.List.{List, [], _∷_}
 use lib.Dec.{T}
 use Rattle.page_record.specs.declared.Page.{Page}
-use Rattle.page_record.specs.Rules.{soundOf}
-use Rattle.steps.specs.declared.Request.{Request}
+use Rattle.soundness.specs.Soundness.{soundOf}
+use Rattle.requests.specs.declared.Request.{Request}
 use Rattle.lock.specs.Step.{stepOf}
 use Rattle.lock.proofs.Keeps.{step-keeps}
 use Rattle.wire.specs.declared.Reading.{Reading}

@@ -1,74 +1,66 @@
 -- What the history tells of a page, step by step: counts, storage, the loader's bucket, and the values handed out. Each step
 -- keeps it (one entry for each number), a refusal changes neither page nor history's sums, so it holds after any requests.
 -- Assumes nothing.
-use Prim.Native.Nat.{ℕ, zero, suc, _+_, _≤_, _<_}
+use Prim.Native.Nat.{ℕ, _+_, _≤_, _<_}
 use mathlib.Core.Path.{_≡_, refl, sym, _∙_}
 use mathlib.Core.Bool.{Bool, true, false, not, cond, _&&_}
 use mathlib.Core.List.{List, [], _∷_}
 use native.Mathlib.Omega.{arith}
 use borrow.Author.Tests.{eq-eqb}
 use lib.Dec.{T, eqb, leb, ltb→lt}
-use lib.ListN.{length, replicate}
-use Rattle.kinds.specs.declared.Bucket.{Bucket}
-use Rattle.kinds.specs.declared.Count.{Count}
-use Rattle.kinds.specs.declared.Storage.{Storage}
-use Rattle.kinds.specs.declared.MaybeBucket.{MaybeBucket}
-use Rattle.kinds.specs.declared.Reader.{Reader}
-use Rattle.kinds.specs.declared.Phase.{Phase}
+use lib.ListN.{length}
+use Rattle.laws.specs.Lists.{among}
+use Rattle.laws.proofs.Tests.{to-true, to-false, and-iff}
+use Rattle.laws.proofs.Pick.{Below, _&_, pick}
+use Rattle.kinds.specs.declared.{Bucket.Bucket, Count.Count, Storage.Storage, MaybeBucket.MaybeBucket, Reader.Reader}
+use Rattle.kinds.specs.declared.{Phase.Phase}
 use Rattle.kinds.specs.Limits.{buckets, capacity}
 use Rattle.readers.specs.declared.Found.{Found}
 use Rattle.readers.specs.Listed.{live, findIn}
-use Rattle.readers.proofs.Tests.{to-true, to-false, and-iff}
 use Rattle.readers.proofs.First.{found}
-use Rattle.page_record.specs.declared.Head.{Head}
-use Rattle.page_record.specs.declared.Page.{Page}
-use Rattle.page_record.specs.Holders.{hasBucket, validBucket, bucketOf, loadingBucket, valueOf, excValue}
-use Rattle.page_record.specs.Pages.{numberAt, headOf, freshPage}
+use Rattle.page_record.specs.declared.{Head.Head, Page.Page}
+use Rattle.page_record.specs.Holders.{isStored, hasBucket, validBucket, bucketOf, loadingBucket, valueOf, excValue}
+use Rattle.page_record.specs.Pages.{numberAt, headOf}
 use Rattle.page_record.specs.References.{refAt}
-use Rattle.page_record.specs.Facts.{Sound}
-use Rattle.page_record.specs.Rules.{soundOf}
-use Rattle.page_record.proofs.Tested.{facts}
-use Rattle.page_record.proofs.Known.{known, listed-counted}
-use Rattle.steps.specs.declared.Request.{Request}
-use Rattle.steps.specs.declared.Answer.{Answer}
-use Rattle.steps.specs.declared.Verdict.{Verdict}
-use Rattle.steps.specs.declared.Refusal.{Refusal}
-use Rattle.steps.specs.Setters.{raise, lower}
-use Rattle.steps.specs.Premises.{Step, Passes, verdict, settled}
-use Rattle.steps.specs.Requests.{formal, judged}
+use Rattle.soundness.specs.Soundness.{soundOf}
+use Rattle.soundness.proofs.Facts.{Sound}
+use Rattle.soundness.proofs.Tested.{facts}
+use Rattle.soundness.proofs.Known.{known, listed-counted}
+use Rattle.requests.specs.declared.{Request.Request, Answer.Answer, Verdict.Verdict, Refusal.Refusal}
+use Rattle.requests.specs.Premises.{Passes, verdict}
+use Rattle.requests.specs.Requests.{formal, judged, pastLast}
+use Rattle.requests.proofs.Verdicts.{passed}
+use Rattle.requests.proofs.Reasons.{refusal-positive}
+use Rattle.requests.proofs.Formed.{judged-bucket, step-below}
+use Rattle.heads.specs.Setters.{raise, lower}
+use Rattle.heads.specs.Decisions.{Step, settled, isFound, reader}
 use Rattle.steps.specs.Decide.{stepAt, soughtOf, decideOf}
-use Rattle.steps.specs.Steps.{isFound, reader}
-use Rattle.steps.proofs.Verdicts.{passed}
-use Rattle.steps.proofs.Reasons.{refusal-positive}
-use Rattle.lock.specs.Words.{among, raising, leaving, puttingIn, handingOut}
+use Rattle.lock.specs.Words.{raising, leaving, puttingIn, handingOut}
 use Rattle.lock.specs.Step.{lookFor, stepped, stepOf}
-use Rattle.lock.proofs.Counts.{number-raise, number-lower}
-use Rattle.lock.proofs.MoveFacts.{granted}
-use Rattle.lock.proofs.Pick.{Below, _&_, pick}
-use Rattle.lock.proofs.Cells.{pastLast}
-use Rattle.lock.proofs.Passes.{judged-bucket}
-use Rattle.lock.proofs.Least.{step-below}
+use Rattle.lock.proofs.Keeps.Counts.{number-raise, number-lower}
+use Rattle.lock.proofs.Exact.Granted.{granted}
 use Rattle.lock.proofs.Keeps.{step-keeps}
-use Rattle.demands.specs.History.{Event, event, after, history, arrivals, departures, lastPut, lastWithdrew, lastCounted, HandedOut}
+use Rattle.demands.specs.History.{Event, Start, startOf, event, after, history, arrivals, departures, lastPut}
+use Rattle.demands.specs.History.{lastWithdrew, lastCounted, HandedOut}
 
 -- ---- what is told
 -- of the counts, of storage and of the loader's bucket
-pub record Told (fresh : ℕ) (cs : List Count) (s : Storage) (loader : MaybeBucket) (past : List Event) : Type 0 where
-  pub balance : (b : ℕ) → numberAt cs b + departures b past ≡ arrivals b past
-  pub stored : s ≡ cond (lastWithdrew past) Storage.Out (Storage.In (lastPut fresh past))
-  pub counted : T (hasBucket loader) → lastCounted past ≡ loader
-  pub handed : HandedOut fresh past
+pub record Told (start : Start) (cs : List Count) (s : Storage) (loader : MaybeBucket) (past : List Event) : Type 0 where
+  pub balance : (b : ℕ) → numberAt cs b + departures start b past ≡ start .counts b + arrivals b past
+  pub stored : s ≡ cond (lastWithdrew start past) Storage.Out (Storage.In (lastPut start past))
+  pub counted : T (hasBucket loader) → lastCounted start past ≡ loader
+  pub handed : HandedOut start past
 
-abbrev pub ToldOf : ℕ → Head → List Event → Type 0
-ToldOf fresh h past = Told fresh (h .«ref_counts») (h .storage) (loadingBucket (h .«loading_state»)) past
+abbrev pub ToldOf : Start → Head → List Event → Type 0
+ToldOf start h past = Told start (h .«ref_counts») (h .storage) (loadingBucket (h .«loading_state»)) past
 
 -- what is stored was last put in
-pub put-in : (fresh : ℕ) (s : Storage) (past : List Event)
-    → s ≡ cond (lastWithdrew past) Storage.Out (Storage.In (lastPut fresh past)) → (v : ℕ) → s ≡ Storage.In v → v
-    ≡ lastPut fresh past
-put-in fresh s past told v e = go (lastWithdrew past) (sym e ∙ told)
+pub put-in : (start : Start) (s : Storage) (past : List Event)
+    → s ≡ cond (lastWithdrew start past) Storage.Out (Storage.In (lastPut start past)) → (v : ℕ) → s ≡ Storage.In v → v
+    ≡ lastPut start past
+put-in start s past told v e = go (lastWithdrew start past) (sym e ∙ told)
   where
-    go : (t : Bool) → Storage.In v ≡ cond t Storage.Out (Storage.In (lastPut fresh past)) → v ≡ lastPut fresh past
+    go : (t : Bool) → Storage.In v ≡ cond t Storage.Out (Storage.In (lastPut start past)) → v ≡ lastPut start past
     go true f = absurd (let z : _≡_ {A = ℕ} 0 1 = cc in omega arith)
     go false f = cc
 
@@ -83,8 +75,8 @@ unnamed n =
     && not (among puttingIn n)
     && not (among handingOut n)
 
-module _ (fresh : ℕ) (h : Head) (l : List Reader) (b : Bucket) (clean value : ℕ) (full : Bool) (past : List Event)
-    (s : Sound h l) (inside : b .0 < buckets) (told : ToldOf fresh h past) where
+module _ (start : Start) (h : Head) (l : List Reader) (b : Bucket) (clean value : ℕ) (full : Bool) (past : List Event)
+    (s : Sound h l) (inside : b .0 < buckets) (told : ToldOf start h past) where
   abbrev ask : ℕ → Request
   ask n = record { step = n; bucket = b; clean = clean; value = value }
 
@@ -92,17 +84,17 @@ module _ (fresh : ℕ) (h : Head) (l : List Reader) (b : Bucket) (clean value : 
   stepNo n = stepAt h (ask n) (lookFor l (soughtOf (ask n))) full
 
   abbrev Entry : ℕ → Type 0
-  Entry n = Passes (stepNo n .premises) → ToldOf fresh (stepNo n .head) (record { request = ask n; answer = stepNo n .answer } ∷ past)
+  Entry n = Passes (stepNo n .premises) → ToldOf start (stepNo n .head) (record { request = ask n; answer = stepNo n .answer } ∷ past)
 
   within : b .0 < length (h .«ref_counts»)
   within = omega (arith, s .four)
 
   raised-balance : (x : ℕ)
-      → numberAt (raise (b .0) (h .«ref_counts»)) x + departures x past ≡ cond (eqb (b .0) x) 1 0 + arrivals x past
+      → numberAt (raise (b .0) (h .«ref_counts»)) x + departures start x past ≡ start .counts x + (cond (eqb (b .0) x) 1 0 + arrivals x past)
   raised-balance x = omega (arith, number-raise (h .«ref_counts») (b .0) x within, told .balance x)
 
   lowered-balance : 1 ≤ numberAt (h .«ref_counts») (b .0) → (x : ℕ)
-      → numberAt (lower (b .0) (h .«ref_counts»)) x + (cond (eqb (b .0) x) 1 0 + departures x past) ≡ arrivals x past
+      → numberAt (lower (b .0) (h .«ref_counts»)) x + (cond (eqb (b .0) x) 1 0 + departures start x past) ≡ start .counts x + arrivals x past
   lowered-balance k x = omega (arith, number-lower (h .«ref_counts») (b .0) x within k, told .balance x)
 
   -- a reader that is found is counted
@@ -116,18 +108,18 @@ module _ (fresh : ℕ) (h : Head) (l : List Reader) (b : Bucket) (clean value : 
       go Found.Nowhere e t = absurd t
 
   -- a withdrawal hands out what was last put in
-  was-put : (v : ℕ) → h .storage ≡ Storage.In v → v ≡ lastPut fresh past
-  was-put = put-in fresh (h .storage) past (told .stored)
+  was-put : (v : ℕ) → h .storage ≡ Storage.In v → v ≡ lastPut start past
+  was-put = put-in start (h .storage) past (told .stored)
 
   -- no count changes, nothing is handed out
-  even : (x : ℕ) → numberAt (h .«ref_counts») x + (0 + 0 + departures x past) ≡ 0 + arrivals x past
+  even : (x : ℕ) → numberAt (h .«ref_counts») x + (0 + 0 + departures start x past) ≡ start .counts x + (0 + arrivals x past)
   even x = omega (arith, told .balance x)
 
-  none-out : {A : Type 0} → (⊥ → A) × HandedOut fresh past
+  none-out : {A : Type 0} → (⊥ → A) × HandedOut start past
   none-out = (λ t. absurd t, told .handed)
 
   -- a step that the history's words don't name, and that leaves the counts, storage and the loader's bucket
-  calm : (n : ℕ) → T (unnamed n) → ToldOf fresh h (record { request = ask n; answer = Answer.Accepted } ∷ past)
+  calm : (n : ℕ) → T (unnamed n) → ToldOf start h (record { request = ask n; answer = Answer.Accepted } ∷ past)
   calm n t =
       let u = simp and-iff at t in
       let raises = to-false (among raising n) (u .0 .0 .0 .0 .0) in
@@ -188,9 +180,9 @@ module _ (fresh : ℕ) (h : Head) (l : List Reader) (b : Bucket) (clean value : 
   told16 t = record { balance = even; stored = refl; counted = λ w. absurd w; handed = none-out }
 
   -- the loader's bucket is the one that the latest 13 named, and it is counted there
-  left-balance : (m : MaybeBucket) → loadingBucket (h .«loading_state») ≡ m → lastCounted past ≡ m → T (hasBucket m)
+  left-balance : (m : MaybeBucket) → loadingBucket (h .«loading_state») ≡ m → lastCounted start past ≡ m → T (hasBucket m)
       → T (validBucket m) → (x : ℕ)
-      → numberAt (lower (bucketOf m .0) (h .«ref_counts»)) x + (refAt (lastCounted past) x + departures x past) ≡ arrivals x past
+      → numberAt (lower (bucketOf m .0) (h .«ref_counts»)) x + (refAt (lastCounted start past) x + departures start x past) ≡ start .counts x + arrivals x past
   left-balance MaybeBucket.None e f k v x = absurd k
   left-balance (MaybeBucket.At a) e f k v x =
       let inside : a .0 < buckets = ltb→lt (a .0) buckets v in
@@ -202,7 +194,7 @@ module _ (fresh : ℕ) (h : Head) (l : List Reader) (b : Bucket) (clean value : 
   told17 : Entry 17
   told17 t =
       let m = loadingBucket (h .«loading_state») in
-      let v = granted h (s .head) .loaded (t .0) .1 in
+      let v = granted h (s .head) .loading (t .0) .1 in
       record {
         balance = λ x. omega (arith, left-balance m refl (told .counted (t .1 .0)) (t .1 .0) v x);
         stored = refl;
@@ -264,9 +256,9 @@ module _ (fresh : ℕ) (h : Head) (l : List Reader) (b : Bucket) (clean value : 
 
 -- ---- one request
 -- a refusal has a number above 0, so the history's sums do not see it
-pub refused-tells : (fresh : ℕ) (h : Head) (past : List Event) (q : Request) (why : Refusal)
-    → ToldOf fresh h past → ToldOf fresh h (record { request = q; answer = Answer.Refused why } ∷ past)
-refused-tells fresh h past q why told =
+pub refused-tells : (start : Start) (h : Head) (past : List Event) (q : Request) (why : Refusal)
+    → ToldOf start h past → ToldOf start h (record { request = q; answer = Answer.Refused why } ∷ past)
+refused-tells start h past q why told =
     record {
       balance = λ x. rw (refusal-positive why) (omega (arith, told .balance x));
       stored = rw (refusal-positive why) (told .stored);
@@ -274,54 +266,50 @@ refused-tells fresh h past q why told =
       handed = (λ t. absurd t, told .handed);
     }
 
-module _ (fresh : ℕ) (p : Page) (q : Request) (past : List Event) where
+module _ (start : Start) (p : Page) (q : Request) (past : List Event) where
   abbrev st : Step
   st = stepAt (headOf p) q (lookFor (live (p .readers)) (soughtOf q)) (leb capacity (p .readers .len))
 
   -- a request that is judged well formed
-  decided-tells : Sound (headOf p) (live (p .readers)) → judged q ≡ Verdict.Passed → ToldOf fresh (headOf p) past
-      → ToldOf fresh (headOf (stepped p q Verdict.Passed .page)) (record { request = q; answer = stepped p q Verdict.Passed .answer } ∷ past)
+  decided-tells : Sound (headOf p) (live (p .readers)) → judged q ≡ Verdict.Passed → ToldOf start (headOf p) past
+      → ToldOf start (headOf (stepped p q Verdict.Passed .page)) (record { request = q; answer = stepped p q Verdict.Passed .answer } ∷ past)
   unfolding decideOf judged
   decided-tells sound formed told = go (verdict (st .premises)) refl
     where
       go : (v : Verdict) → verdict (st .premises) ≡ v
-          → ToldOf fresh (settled (headOf p) st v .head) (record { request = q; answer = settled (headOf p) st v .answer } ∷ past)
+          → ToldOf start (settled (headOf p) st v .head) (record { request = q; answer = settled (headOf p) st v .answer } ∷ past)
       go Verdict.Passed f =
           let l = live (p .readers) in
           let full = leb capacity (p .readers .len) in
           let inside = judged-bucket q formed in
           let known = passed (formal q) formed .0 in
-          pick pastLast (Entry fresh (headOf p) l (q .bucket) (q .clean) (q .value) full past sound inside told)
-          (entries fresh (headOf p) l (q .bucket) (q .clean) (q .value) full past sound inside told)
+          pick pastLast (Entry start (headOf p) l (q .bucket) (q .clean) (q .value) full past sound inside told)
+          (entries start (headOf p) l (q .bucket) (q .clean) (q .value) full past sound inside told)
           (q .step) (step-below (q .step) known)
           (passed (st .premises) f)
-      go (Verdict.Failed why) f = refused-tells fresh (headOf p) past q why told
+      go (Verdict.Failed why) f = refused-tells start (headOf p) past q why told
 
   -- any request on a sound page
-  pub step-tells : T (soundOf p) → ToldOf fresh (headOf p) past → ToldOf fresh (headOf (stepOf p q .page)) (event p q ∷ past)
+  pub step-tells : T (soundOf p) → ToldOf start (headOf p) past → ToldOf start (headOf (stepOf p q .page)) (event p q ∷ past)
   unfolding stepOf
   step-tells sound told = rw (to-true (soundOf p) sound) (go (judged q) refl)
     where
       go : (v : Verdict) → judged q ≡ v
-          → ToldOf fresh (headOf (stepped p q v .page)) (record { request = q; answer = stepped p q v .answer } ∷ past)
+          → ToldOf start (headOf (stepped p q v .page)) (record { request = q; answer = stepped p q v .answer } ∷ past)
       go Verdict.Passed e = decided-tells (facts p sound .parts) e told
-      go (Verdict.Failed why) e = refused-tells fresh (headOf p) past q why told
+      go (Verdict.Failed why) e = refused-tells start (headOf p) past q why told
 
 -- ---- any requests
-pub tells : (fresh : ℕ) (p : Page) (past : List Event) (qs : List Request) → T (soundOf p) → ToldOf fresh (headOf p) past
-    → ToldOf fresh (headOf (after p qs)) (history p qs past)
-tells fresh p past [] sound told = told
-tells fresh p past (q ∷ qs) sound told =
-    tells fresh (stepOf p q .page) (event p q ∷ past) qs (step-keeps p q sound) (step-tells fresh p q past sound told)
+pub tells : (start : Start) (p : Page) (past : List Event) (qs : List Request) → T (soundOf p) → ToldOf start (headOf p) past
+    → ToldOf start (headOf (after p qs)) (history p qs past)
+tells start p past [] sound told = told
+tells start p past (q ∷ qs) sound told =
+    tells start (stepOf p q .page) (event p q ∷ past) qs (step-keeps p q sound) (step-tells start p q past sound told)
 
--- a fresh page: nothing has happened
-pub fresh-told : (fresh : ℕ) → ToldOf fresh (headOf (freshPage fresh)) []
-unfolding freshPage
-fresh-told fresh = record { balance = none; stored = refl; counted = λ t. absurd t; handed = tt }
+-- at the start nothing has happened
+pub start-told : (p : Page) → ToldOf (startOf p) (headOf p) []
+start-told p = record { balance = λ b. refl; stored = as-kept (p .storage); counted = λ t. refl; handed = tt }
   where
-    none : (b : ℕ) → numberAt (replicate buckets (record { 0 = 0 })) b + 0 ≡ 0
-    none zero = refl
-    none (suc zero) = refl
-    none (suc (suc zero)) = refl
-    none (suc (suc (suc zero))) = refl
-    none (suc (suc (suc (suc b)))) = refl
+    as-kept : (s : Storage) → s ≡ cond (not (isStored s)) Storage.Out (Storage.In (valueOf s))
+    as-kept Storage.Out = refl
+    as-kept (Storage.In v) = refl

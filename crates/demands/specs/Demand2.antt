@@ -1,49 +1,40 @@
--- Demand 2: a well-formed request on a sound record is accepted exactly when the source's transition, with document 01's
--- changes, allows it and the limits leave room; the next record and any withdrawn value are that transition's. Requests read
+-- Demand 2: a well-formed request on a sound record is accepted exactly when the source's transition, with the changes of
+-- RULES 3.2, allows it and the limits leave room; the next record and any withdrawn value are that transition's. Requests read
 -- from bytes and written back agree both ways.
-use Prim.Native.Nat.{ℕ, _<_, _/_}
+use Prim.Native.Nat.{ℕ, _<_}
 use mathlib.Core.Path.{_≡_}
 use mathlib.Core.Logic.{_↔_}
 use mathlib.Core.List.{List}
-use lib.Dec.{T}
 use lib.ListN.{length, take}
 use Rattle.kinds.specs.declared.Storage.{Storage}
-use Rattle.kinds.specs.Limits.{recordSize}
-use Rattle.readers.specs.Listed.{live, listed}
+use Rattle.kinds.specs.Limits.{lineSize}
 use Rattle.page_record.specs.declared.Page.{Page}
-use Rattle.page_record.specs.Rules.{soundOf}
-use Rattle.steps.specs.declared.Request.{Request}
-use Rattle.steps.specs.declared.Answer.{Answer}
-use Rattle.steps.specs.declared.Verdict.{Verdict}
-use Rattle.steps.specs.Requests.{judged}
+use Rattle.requests.specs.declared.{Request.Request, Answer.Answer, Verdict.Verdict}
+use Rattle.requests.specs.Requests.{judged}
 use Rattle.lock.specs.Step.{stepOf}
-use Rattle.lock.specs.Moves.{Moves, Room, stateOf, answerOf}
+use Rattle.lock.specs.Moves.{answerOf}
+use Rattle.lock.specs.Allowed.{Allowed}
 use Rattle.wire.specs.declared.Reading.{Reading}
-use Rattle.wire.specs.Bytes.{valueLimit}
+use Rattle.wire.specs.Bytes.{valueLimit, Bytes}
 use Rattle.wire.specs.Requests.{readOf, bytesOf, InRange, wroteAnswer, wroteTo}
-use Rattle.wire.proofs.Bytes.{Bytes}
 use Rattle.replay.specs.Turns.{turnOf}
-use Rattle.replay.specs.Run.{recordAt, pageAt, ranOf}
+use Rattle.replay.specs.Run.{lineAt, pageAt}
 
--- the source's transition from p to p′ that hands this out, with room for it; its array is the list and blanks past it
-pub record Permitted (p : Page) (q : Request) (p′ : Page) (out : Storage) : Type 0 where
-  pub moves : Moves (stateOf p) q (stateOf p′) out
-  pub room : Room (stateOf p) q
-  pub neat : p′ .readers ≡ listed (live (p′ .readers))
-
+-- a step is accepted, hands this out and leaves this page just if all that acceptance is holds: on a sound record, of a
+-- well-formed request, that is the source's transition and the limits' room
 abbrev pub Demand2 : Type 0
 Demand2 =
-    (p p′ : Page) (q : Request) (out : Storage) → T (soundOf p) → judged q ≡ Verdict.Passed
-    → (stepOf p q ≡ record { answer = answerOf out; page = p′ }) ↔ Permitted p q p′ out
+    (p p′ : Page) (q : Request) (out : Storage)
+    → (stepOf p q ≡ record { answer = answerOf out; page = p′ }) ↔ Allowed p q p′ out
 
--- the same for each line of a run: the page that it is answered from is sound, and a request that is read is well formed
+-- the same for each line of a run that reads as a request: the page that it is answered from is the one that the requests before
+-- it left
 abbrev pub Demand2Run : Type 0
 Demand2Run =
-    (p : Page) (requests answers : List ℕ) → ranOf p requests answers .answer ≡ Answer.Accepted
-    → (k : ℕ) → k < length requests / recordSize → (q : Request) → readOf (recordAt k requests) ≡ Reading.Request q
+    (p : Page) (requests : List ℕ) (k : ℕ) (q : Request) → readOf (lineAt k requests) ≡ Reading.Request q
     → (p′ : Page) (out : Storage)
-    → (turnOf (pageAt k p requests) (recordAt k requests) ≡ record { answer = answerOf out; page = p′ })
-    ↔ Permitted (pageAt k p requests) q p′ out
+    → (turnOf (pageAt k p requests) (lineAt k requests) ≡ record { answer = answerOf out; page = p′ })
+    ↔ Allowed (pageAt k p requests) q p′ out
 
 pub record Demand2Bytes : Type 0 where
   -- written and read again
@@ -56,8 +47,8 @@ pub record Demand2Bytes : Type 0 where
       ↔ ((q : Request) × (judged q ≡ Verdict.Passed) × InRange q × (bytesOf q ≡ l))
   -- both at once, for the functions themselves: bytes are read as a request just if writing that request, whose fields the
   -- code can hold, into any buffer of sixteen bytes is accepted and leaves those bytes
-  pub agree : (l buffer : List ℕ) (q : Request) → Bytes l → length buffer ≡ recordSize
+  pub agree : (l buffer : List ℕ) (q : Request) → Bytes l → length buffer ≡ lineSize
       → (readOf l ≡ Reading.Request q) ↔ (InRange q × (wroteAnswer q buffer ≡ Answer.Accepted) × (wroteTo q buffer ≡ l))
   -- what is written into a longer buffer stands in its first sixteen bytes
   pub first : (q : Request) (buffer : List ℕ) → wroteAnswer q buffer ≡ Answer.Accepted
-      → take recordSize (wroteTo q buffer) ≡ bytesOf q
+      → take lineSize (wroteTo q buffer) ≡ bytesOf q

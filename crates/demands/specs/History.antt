@@ -1,19 +1,20 @@
--- What happened to a page, and what can be told from it: document 01's "History, for demand 3", word by word. A history is
--- the list of requests with the answers that were given, the newest first, so that "the latest" is the first one found.
+-- What happened to a page, and what can be told from it, in the words of RULES 9. A history is the list of requests with the
+-- answers that were given, the newest first, so that "the latest" is the first one found; and it starts from a page.
 use Prim.Native.Nat.{ℕ, _+_}
 use mathlib.Core.Path.{_≡_}
-use mathlib.Core.Bool.{Bool, true, false, cond, _&&_}
+use mathlib.Core.Bool.{Bool, true, false, cond, not, _&&_}
 use mathlib.Core.List.{List, [], _∷_, _++_}
 use lib.Dec.{T, eqb}
 use lib.ListN.{length}
+use Rattle.laws.specs.Lists.{among}
 use Rattle.kinds.specs.declared.MaybeBucket.{MaybeBucket}
 use Rattle.page_record.specs.declared.Page.{Page}
+use Rattle.page_record.specs.Holders.{isStored, valueOf, loadingBucket}
+use Rattle.page_record.specs.Pages.{numberAt}
 use Rattle.page_record.specs.References.{refAt}
-use Rattle.steps.specs.declared.Request.{Request}
-use Rattle.steps.specs.declared.Answer.{Answer}
-use Rattle.steps.specs.declared.Verdict.{Verdict}
-use Rattle.steps.specs.Answers.{answerNumber, answerValue, withdraws}
-use Rattle.lock.specs.Words.{among, raising, leaving, puttingIn, handingOut}
+use Rattle.requests.specs.declared.{Request.Request, Answer.Answer, Verdict.Verdict}
+use Rattle.requests.specs.Answers.{answerNumber, answerValue, withdraws}
+use Rattle.lock.specs.Words.{raising, leaving, puttingIn, handingOut}
 use Rattle.lock.specs.Step.{stepOf}
 use Rattle.wire.specs.Answers.{lineOf}
 use Rattle.wire.specs.Requests.{fieldsOf}
@@ -74,7 +75,26 @@ abbrev pub answerLines : List Event → List ℕ
 answerLines [] = []
 answerLines (e ∷ past) = answerLines past ++ lineOf (e .answer)
 
--- ---- document 01's words
+-- ---- what a history starts from
+-- what is taken to have happened just before: each bucket's count, which is no arrival; the value that was put in last; whether the
+-- page was withdrawn since; and the loader's bucket, which the latest 13 named
+pub record Start : Type 0 where
+  pub counts : ℕ → ℕ
+  pub value : ℕ
+  pub out : Bool
+  pub loader : MaybeBucket
+
+-- a history that starts at this page. A page that is out was withdrawn just before, and then its loader named its bucket by a 13;
+-- what was last put in is unknown then, and nobody holds a value
+abbrev pub startOf : Page → Start
+startOf p = record {
+  counts = numberAt (p .«ref_counts»);
+  value = valueOf (p .storage);
+  out = not (isStored (p .storage));
+  loader = loadingBucket (p .«loading_state»);
+}
+
+-- ---- the words of RULES 9
 -- an accepted request for one of these steps
 abbrev pub accepted : List ℕ → Event → Bool
 accepted steps e = eqb (answerNumber (e .answer)) 0 && among steps (e .request .step)
@@ -83,36 +103,44 @@ accepted steps e = eqb (answerNumber (e .answer)) 0 && among steps (e .request .
 abbrev pub namesBucket : ℕ → Event → Bool
 namesBucket b e = eqb (e .request .bucket .0) b
 
--- the bucket that the latest accepted 13 named
-abbrev pub lastCounted : List Event → MaybeBucket
-lastCounted [] = MaybeBucket.None
-lastCounted (e ∷ past) = cond (accepted (13 ∷ []) e) (MaybeBucket.At (e .request .bucket)) (lastCounted past)
-
 -- arrivals at b: accepted 13, 18 and 19 naming b
 abbrev pub arrivals : ℕ → List Event → ℕ
 arrivals b [] = 0
 arrivals b (e ∷ past) = cond (accepted raising e && namesBucket b e) 1 0 + arrivals b past
 
--- departures from b: accepted 20, 21, 22 naming b, and accepted 17 where the latest accepted 13 named b
-abbrev pub departures : ℕ → List Event → ℕ
-departures b [] = 0
-departures b (e ∷ past) =
-    cond (accepted leaving e && namesBucket b e) 1 0
-    + cond (accepted (17 ∷ []) e) (refAt (lastCounted past) b) 0
-    + departures b past
+module _ (start : Start) where
+  -- the bucket that the latest accepted 13 named
+  abbrev pub lastCounted : List Event → MaybeBucket
+  lastCounted [] = start .loader
+  lastCounted (e ∷ past) = cond (accepted (13 ∷ []) e) (MaybeBucket.At (e .request .bucket)) (lastCounted past)
 
--- the last value put in: of the latest accepted 9, 10, 16 or 17, else the fresh value
-abbrev pub lastPut : ℕ → List Event → ℕ
-lastPut fresh [] = fresh
-lastPut fresh (e ∷ past) = cond (accepted puttingIn e) (e .request .value) (lastPut fresh past)
+  -- departures from b: accepted 20, 21, 22 naming b, and accepted 17 where the latest accepted 13 named b
+  abbrev pub departures : ℕ → List Event → ℕ
+  departures b [] = 0
+  departures b (e ∷ past) =
+      cond (accepted leaving e && namesBucket b e) 1 0
+      + cond (accepted (17 ∷ []) e) (refAt (lastCounted past) b) 0
+      + departures b past
 
--- hand-overs are those four and 8, 11, 12: whether the last one was a withdrawal
-abbrev pub lastWithdrew : List Event → Bool
-lastWithdrew [] = false
-lastWithdrew (e ∷ past) =
-    cond (accepted handingOut e) true (cond (accepted puttingIn e) false (lastWithdrew past))
+  -- the last value put in: of the latest accepted 9, 10, 16 or 17, else the start's
+  abbrev pub lastPut : List Event → ℕ
+  lastPut [] = start .value
+  lastPut (e ∷ past) = cond (accepted puttingIn e) (e .request .value) (lastPut past)
 
--- every value that was handed out was the one last put in at that moment
-abbrev pub HandedOut : ℕ → List Event → Type 0
-HandedOut fresh [] = Unit {0}
-HandedOut fresh (e ∷ past) = (T (withdraws (e .answer)) → answerValue (e .answer) ≡ lastPut fresh past) × HandedOut fresh past
+  -- hand-overs are those four and 8, 11, 12: whether the last one was a withdrawal
+  abbrev pub lastWithdrew : List Event → Bool
+  lastWithdrew [] = start .out
+  lastWithdrew (e ∷ past) = cond (accepted handingOut e) true (cond (accepted puttingIn e) false (lastWithdrew past))
+
+  -- every value that was handed out was the one last put in at that moment
+  abbrev pub HandedOut : List Event → Type 0
+  HandedOut [] = Unit {0}
+  HandedOut (e ∷ past) = (T (withdraws (e .answer)) → answerValue (e .answer) ≡ lastPut past) × HandedOut past
+
+-- a value was handed out just where an 8, 11 or 12 was accepted
+abbrev pub HandsOut : Event → Type 0
+HandsOut e = withdraws (e .answer) ≡ accepted handingOut e
+
+abbrev pub HandOuts : List Event → Type 0
+HandOuts [] = Unit {0}
+HandOuts (e ∷ past) = HandsOut e × HandOuts past

@@ -3,6 +3,7 @@
 ghost use Prim.Native.Nat.{_*_, _≤_};
 ghost use Rattle.replay.specs.Reply.{longest};
 ghost use Rattle.desk.specs.Limits.{more};
+use libc::STDERR_FILENO;
 use libc::STDIN_FILENO;
 use libc::STDOUT_FILENO;
 use replay::LONGEST;
@@ -44,5 +45,7 @@ fn main() {
     }
     let mut out = [0u8; LONGEST];
     let length = replay::reply(&kept[..n], total, &mut out);
-    io::write_all(STDOUT_FILENO, &out[..length]);
+    if !io::write_all(STDOUT_FILENO, &out[..length]) {
+        io::write_all(STDERR_FILENO, b"desk: the answers could not be written\n");
+    }
 }

@@ -1,5 +1,4 @@
--- What the steps ask of the flag (document 01's table, "a flag premise"), and which flag follows where that depends on the
--- flag before. Each has a clause for each flag, in the source's order, so that a reader sees what is let through.
+-- What the steps ask of the flag (RULES 3.2), and which flag follows where that depends on the flag before (RULES 3.3). Each has a clause for each flag, in the source's order, so that a reader sees what is let through.
 use mathlib.Core.Bool.{Bool, true, false}
 use Rattle.kinds.specs.declared.Flag.{Flag}
 

@@ -1,4 +1,4 @@
--- The limits of document 01, each once. The code's constants of the same names stand in src/lib.rt.
+-- The limits (RULES 2, rule 8, and 4.1), each once. The code's constants of the same names stand in src/lib.rt.
 use Prim.Native.Nat.{ℕ}
 
 -- how many buckets there are (the source's RC_WIDTH, line 40): a bucket is below it, a visited number at most it
@@ -13,10 +13,19 @@ capacity = 64
 abbrev pub ceiling : ℕ
 ceiling = 31
 
+-- the limits that a record is judged under: how many readers it may list, and how high a count may be
+pub record Limits : Type 0 where
+  pub readers : ℕ
+  pub count : ℕ
+
+-- those that the code keeps
+abbrev pub today : Limits
+today = record { readers = capacity; count = ceiling }
+
 -- how many requests a run takes
 abbrev pub mostRequests : ℕ
 mostRequests = 2048
 
--- how many bytes a request and an answer have
-abbrev pub recordSize : ℕ
-recordSize = 16
+-- how many bytes a request and an answer have, a line each
+abbrev pub lineSize : ℕ
+lineSize = 16

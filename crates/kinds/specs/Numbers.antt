@@ -1,10 +1,7 @@
 -- The number of each flag and of each kind of holder, in the source's order: the bytes of a stored record.
 use Prim.Native.Nat.{ℕ}
-use Rattle.kinds.specs.declared.Flag.{Flag}
-use Rattle.kinds.specs.declared.Phase.{Phase}
-use Rattle.kinds.specs.declared.ExcState.{ExcState}
-use Rattle.kinds.specs.declared.LoadingState.{LoadingState}
-use Rattle.kinds.specs.declared.WritebackState.{WritebackState}
+use Rattle.kinds.specs.declared.{Flag.Flag, Phase.Phase, ExcState.ExcState, LoadingState.LoadingState}
+use Rattle.kinds.specs.declared.{WritebackState.WritebackState}
 
 -- flags, 0 to 10
 abbrev pub flagNumber : Flag → ℕ

@@ -1,6 +1,7 @@
 // What the steps ask of the flag, and which flag follows where that depends on the flag before.
 ghost use mathlib.Core.Path.{_≡_};
-ghost use Rattle.kinds.specs.Flags.{isAvailable, claimable, writebackDone, isUnmapped, openToReaders, notLoading, released, claimed, awaited, lockFlag};
+ghost use Rattle.kinds.specs.Flags.{isAvailable, claimable, writebackDone, isUnmapped, openToReaders, notLoading};
+ghost use Rattle.kinds.specs.Flags.{released, claimed, awaited, lockFlag};
 ghost use Rattle.kinds.specs.Numbers.{flagNumber};
 use crate::Flag;
 

@@ -28,8 +28,8 @@ pub const CEILING: u8 = 31;
 // How many requests a run takes.
 pub const MOST_REQUESTS: usize = 2048;
 
-// How many bytes a request and an answer have.
-pub const RECORD: usize = 16;
+// How many bytes a request and an answer have, a line each.
+pub const LINE: usize = 16;
 
 // Which reference count a holder uses, 0 to 3.
 pub struct Bucket(pub u8);

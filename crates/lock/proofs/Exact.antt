@@ -3,35 +3,37 @@
 -- (`exact-parts`). Over pages this holds with no premise (`exact`): what is asked of the page and of the request is part of
 -- what acceptance is. And on a sound page, where the limits leave room, `Moves` allows a request at most one next state and
 -- one value handed out (`no-second-move`). Assumes nothing.
+pub mod Flags
+pub mod Laws
+pub mod Granted
+pub mod AllowedAccepted
+pub mod AcceptedAllowed
 use mathlib.Core.Path.{_≡_, refl, sym, ap, _∙_, subst}
 use mathlib.Core.Logic.{_↔_}
 use mathlib.Core.Bool.{Bool, true, false}
 use mathlib.Core.List.{List}
 use lib.Dec.{T}
-use Rattle.kinds.specs.declared.Reader.{Reader}
-use Rattle.kinds.specs.declared.Storage.{Storage}
+use Rattle.laws.proofs.Tests.{is-true}
+use Rattle.kinds.specs.declared.{Reader.Reader, Storage.Storage}
 use Rattle.readers.specs.Listed.{live, listed}
-use Rattle.readers.proofs.Tests.{is-true}
 use Rattle.readers.proofs.Bridge.{live-listed}
-use Rattle.page_record.specs.declared.Head.{Head}
-use Rattle.page_record.specs.declared.Page.{Page}
+use Rattle.page_record.specs.declared.{Head.Head, Page.Page}
 use Rattle.page_record.specs.Pages.{headOf, pageOf}
-use Rattle.page_record.specs.Rules.{soundOf}
-use Rattle.page_record.specs.Facts.{Sound}
-use Rattle.page_record.proofs.Tested.{facts}
-use Rattle.steps.specs.declared.Refusal.{Refusal}
-use Rattle.steps.specs.declared.Verdict.{Verdict}
-use Rattle.steps.specs.declared.Request.{Request}
-use Rattle.steps.specs.declared.Decision.{Decision}
-use Rattle.steps.specs.Requests.{judged}
+use Rattle.soundness.specs.Soundness.{soundOf}
+use Rattle.soundness.proofs.Facts.{Sound}
+use Rattle.soundness.proofs.Tested.{facts}
+use Rattle.requests.specs.declared.{Refusal.Refusal, Verdict.Verdict, Request.Request}
+use Rattle.requests.specs.Requests.{judged}
+use Rattle.requests.proofs.Formed.{formed}
+use Rattle.heads.specs.declared.Decision.{Decision}
 use Rattle.lock.specs.declared.Outcome.{Outcome}
 use Rattle.lock.specs.Step.{edited, decidedOn, stepOf}
+use Rattle.lock.specs.Allowed.{Neat, Allowed}
 use Rattle.lock.specs.Moves.{RwLock, stateWith, stateOf, Moves, Room, answerOf}
-use Rattle.lock.proofs.Passes.{formed}
 use Rattle.lock.proofs.Keeps.{outcomeOf, step-listed, unsound-stays, unfit-stays}
-use Rattle.lock.proofs.MoveLaws.{Accepts, same-out, unrefused}
-use Rattle.lock.proofs.Takes.{takes}
-use Rattle.lock.proofs.Fits.{told}
+use Rattle.lock.proofs.Exact.Laws.{Accepts, same-out, unrefused}
+use Rattle.lock.proofs.Exact.AllowedAccepted.{takes}
+use Rattle.lock.proofs.Exact.AcceptedAllowed.{told}
 
 -- ---- over a head and a list of readers
 pub exact-parts : (h : Head) (l : List Reader) (q : Request) → Sound h l → judged q ≡ Verdict.Passed
@@ -49,23 +51,6 @@ exact-parts h l q s ok h′ l′ out = (
 -- the step is accepted, hands this out, and leaves this page
 abbrev pub AcceptsPage : Page → Request → Page → Storage → Type 0
 AcceptsPage p q p′ out = stepOf p q ≡ record { answer = answerOf out; page = p′ }
-
--- the array is the one that holds its list, blank past it: the relation speaks of the list, and rule 8 settles the array
-abbrev pub Neat : Page → Type 0
-Neat p = p .readers ≡ listed (live (p .readers))
-
--- what acceptance is, with the numbers that are answered where a line doesn't hold
-pub record Allowed (p : Page) (q : Request) (p′ : Page) (out : Storage) : Type 0 where
-  -- 1
-  pub sound : T (soundOf p)
-  -- 2 to 4
-  pub well-formed : judged q ≡ Verdict.Passed
-  -- 5 to 9
-  pub moves : Moves (stateOf p) q (stateOf p′) out
-  -- 10 and 11
-  pub room : Room (stateOf p) q
-  -- the page after is settled by its list
-  pub neat : Neat p′
 
 module _ (p p′ : Page) (q : Request) (out : Storage) where
   -- what a decision makes of a page, and what it makes of head and list

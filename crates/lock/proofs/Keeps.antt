@@ -2,6 +2,11 @@
 -- sound or not (`refused-keeps-all`); an unsound page is refused (`unsound-stays`), and so is a request that is not well
 -- formed (`unfit-stays`). On a sound page the step is the decision on its head and its list (`step-listed`), since an edit of
 -- the array is the edit of the list (`edited-listed`). Assumes nothing.
+pub mod Counts
+pub mod Sounds
+pub mod Cells
+pub mod Shared
+pub mod Rows
 use Prim.Native.Nat.{ℕ, _≤_}
 use mathlib.Core.Path.{_≡_, refl, ap, _∙_}
 use mathlib.Core.Bool.{Bool, true, false, cond}
@@ -11,34 +16,28 @@ use borrow.Author.Tests.{ltb-true, ltb-false, le-leb, le-ltb}
 use lib.Dec.{T, leb, ltb}
 use lib.ListN.{length, set, length-append}
 use lib.Seq.{set-out}
-use Rattle.kinds.specs.Limits.{capacity}
+use Rattle.laws.specs.Lists.{without}
+use Rattle.laws.proofs.Tests.{to-true}
+use Rattle.laws.proofs.Lists.{without-out}
 use Rattle.kinds.specs.declared.Reader.{Reader}
-use Rattle.readers.specs.declared.Readers.{Readers}
-use Rattle.readers.specs.declared.Pushed.{Pushed}
-use Rattle.readers.specs.Lists.{without}
+use Rattle.kinds.specs.Limits.{capacity}
+use Rattle.readers.specs.declared.{Readers.Readers, Pushed.Pushed}
 use Rattle.readers.specs.Listed.{live, listed, putAt, removedAt}
-use Rattle.readers.proofs.Tests.{to-true}
-use Rattle.readers.proofs.Lists.{without-out}
 use Rattle.readers.proofs.Bridge.{live-listed, pushed-listed, put-listed, removed-listed}
-use Rattle.page_record.specs.declared.Head.{Head}
-use Rattle.page_record.specs.declared.Page.{Page}
+use Rattle.page_record.specs.declared.{Head.Head, Page.Page}
 use Rattle.page_record.specs.Pages.{headOf, pageOf}
-use Rattle.page_record.specs.Rules.{soundOf}
-use Rattle.page_record.specs.Facts.{Sound}
-use Rattle.page_record.proofs.Tested.{facts, tested-parts}
-use Rattle.steps.specs.declared.Refusal.{Refusal}
-use Rattle.steps.specs.declared.Answer.{Answer}
-use Rattle.steps.specs.declared.Verdict.{Verdict}
-use Rattle.steps.specs.declared.Edit.{Edit}
-use Rattle.steps.specs.declared.Request.{Request}
-use Rattle.steps.specs.declared.Decision.{Decision}
-use Rattle.steps.specs.Requests.{judged}
+use Rattle.soundness.specs.Soundness.{soundOf}
+use Rattle.soundness.proofs.Facts.{Sound}
+use Rattle.soundness.proofs.Tested.{facts, tested-parts}
+use Rattle.requests.specs.declared.{Refusal.Refusal, Answer.Answer, Verdict.Verdict, Request.Request}
+use Rattle.requests.specs.Requests.{judged}
+use Rattle.requests.proofs.Formed.{formed}
+use Rattle.heads.specs.declared.{Edit.Edit, Decision.Decision}
 use Rattle.steps.specs.Decide.{soughtOf}
 use Rattle.steps.proofs.Verdicts.{decide-keeps}
 use Rattle.lock.specs.declared.Outcome.{Outcome}
 use Rattle.lock.specs.Step.{edited, editedIn, lookFor, decidedOn, refusedBy, applied, stepped, stepOf}
-use Rattle.lock.proofs.Passes.{formed}
-use Rattle.lock.proofs.Rows.{keeps}
+use Rattle.lock.proofs.Keeps.Rows.{keeps}
 
 -- ---- the edit of the array is the edit of the list
 -- past the end nothing changes

@@ -4,19 +4,19 @@
 use mathlib.Core.Path.{_≡_, ap}
 use mathlib.Core.Logic.{_⊎_}
 use mathlib.Core.List.{List}
-use Rattle.kinds.specs.declared.Flag.{Flag}
-use Rattle.kinds.specs.declared.Storage.{Storage}
-use Rattle.kinds.specs.declared.Phase.{Phase}
-use Rattle.kinds.specs.declared.Reader.{Reader}
+use Rattle.kinds.specs.declared.{Flag.Flag, Storage.Storage, Phase.Phase, Reader.Reader}
 use Rattle.readers.specs.Listed.{findIn}
 use Rattle.page_record.specs.declared.Head.{Head}
-use Rattle.page_record.specs.Facts.{Sound}
-use Rattle.page_record.proofs.Known.{Stored, known, pending2-in}
-use Rattle.steps.specs.declared.Request.{Request}
-use Rattle.steps.specs.Answers.{answerValue}
-use Rattle.steps.specs.Premises.{Passes}
-use Rattle.steps.specs.Steps.{placeOf, reader, takeWriteback, releaseWriteback, bucketlessClaim, claimToPending, withdrawTakeExcLockFinish, withdrawAlloc, withdrawAllocNoRefcount, sharedCheckLoading}
-use Rattle.lock.proofs.Cells.{found-first}
+use Rattle.soundness.proofs.Facts.{Sound}
+use Rattle.soundness.proofs.Known.{Stored, known, pending2-in}
+use Rattle.requests.specs.declared.Request.{Request}
+use Rattle.requests.specs.Answers.{answerValue}
+use Rattle.requests.specs.Premises.{Passes}
+use Rattle.heads.specs.Decisions.{placeOf, reader}
+use Rattle.editing.specs.Steps.{takeWriteback, releaseWriteback, bucketlessClaim, claimToPending}
+use Rattle.editing.specs.Steps.{withdrawTakeExcLockFinish}
+use Rattle.reading.specs.Steps.{withdrawAlloc, withdrawAllocNoRefcount, sharedCheckLoading}
+use Rattle.lock.proofs.Keeps.Cells.{found-first}
 
 module _ (h : Head) (l : List Reader) (s : Sound h l) where
   -- ---- no `assert false`

@@ -1,28 +1,26 @@
--- When each of document 01's numbers 1 to 11 applies to a request on a page, by its table of replies and its table of steps,
--- in words of their own: no premise list and no order stands here. The answer is the lowest number that applies, and none is
--- given otherwise (`least-number`, `number-first` and `number-none` in proofs/Least.antt).
+-- When each of the numbers 1 to 11 applies to a request on a page, by the replies of RULES 4.1 and the steps of RULES 3.2, in
+-- words of their own: no premise list stands here, and the table's order is that of the numbers alone. 2 to 4, which speak of the
+-- request, stand in `requests`. The answer is the lowest number that applies, and none is given otherwise (`least-number`,
+-- `number-first` and `number-none` in proofs/Least.antt).
 use Prim.Native.Nat.{ℕ}
-use mathlib.Core.Bool.{Bool, true, false, not, cond, _&&_, _||_}
+use mathlib.Core.Bool.{Bool, true, false, not, cond, _&&_}
 use mathlib.Core.List.{List, [], _∷_, map}
-use lib.Dec.{eqb, ltb}
-use lib.ListN.{getD}
+use lib.Dec.{eqb}
+use Rattle.laws.specs.Lists.{every, among}
+use Rattle.kinds.specs.declared.{Bucket.Bucket, Flag.Flag, Phase.Phase, Reader.Reader}
 use Rattle.kinds.specs.Limits.{buckets, capacity, ceiling}
 use Rattle.kinds.specs.Numbers.{flagNumber}
-use Rattle.kinds.specs.declared.Bucket.{Bucket}
-use Rattle.kinds.specs.declared.Flag.{Flag}
-use Rattle.kinds.specs.declared.Phase.{Phase}
-use Rattle.kinds.specs.declared.Reader.{Reader}
-use Rattle.readers.specs.Lists.{every}
 use Rattle.readers.specs.Same.{sameReader}
 use Rattle.readers.specs.Listed.{live}
 use Rattle.page_record.specs.declared.Page.{Page}
-use Rattle.page_record.specs.Holders.{hasBucket, isClaim, isAwait, isPending, isEditing, excBucket, excVisited, isWaiting, isCounted, isLoaded, loadingBucket, noWriteback}
+use Rattle.page_record.specs.Holders.{hasBucket, isClaim, isAwait, isPending, isEditing, excBucket, excVisited}
+use Rattle.page_record.specs.Holders.{isWaiting, isCounted, isLoading, loadingBucket, noWriteback}
 use Rattle.page_record.specs.Pages.{numberAt}
 use Rattle.page_record.specs.References.{refAt}
-use Rattle.page_record.specs.Rules.{soundOf}
-use Rattle.steps.specs.declared.Request.{Request}
-use Rattle.steps.specs.Requests.{lastStep}
-use Rattle.lock.specs.Words.{among, raising, listing}
+use Rattle.soundness.specs.Soundness.{soundOf}
+use Rattle.requests.specs.declared.Request.{Request}
+use Rattle.requests.specs.Applies.{applies2, applies3, applies4}
+use Rattle.lock.specs.Words.{raising, listing}
 
 -- ---- words
 -- the flag is one of these
@@ -33,7 +31,7 @@ flagIn fs f = among (map flagNumber fs) (flagNumber f)
 abbrev pub lists : List Reader → Phase → Bucket → Bool
 lists l phase bucket = not (every (λ r. not (sameReader r (record { phase = phase; bucket = bucket }))) l)
 
--- ---- document 01's table of steps
+-- ---- the steps
 -- the flags under which steps 1, 3, 4, 6, 11, 12, 23 and 24 are let through; the others ask nothing of the flag
 abbrev pub flagLets : ℕ → Flag → Bool
 flagLets n f =
@@ -57,40 +55,15 @@ holderThere p q =
     (cond (among (9 ∷ 10 ∷ 18 ∷ []) n) (isEditing (p .«exc_state»))
     (cond (among (13 ∷ 15 ∷ []) n) (isWaiting (p .«loading_state»))
     (cond (eqb n 14) (isCounted (p .«loading_state»))
-    (cond (among (16 ∷ 17 ∷ []) n) (isLoaded (p .«loading_state»))
+    (cond (among (16 ∷ 17 ∷ []) n) (isLoading (p .«loading_state»))
     (cond (among (20 ∷ 23 ∷ []) n) (lists (live (p .readers)) Phase.Pending (q .bucket))
     (cond (among (21 ∷ 24 ∷ []) n) (lists (live (p .readers)) Phase.Pending2 (q .bucket))
     true))))))))))
-
--- the fields that a step takes
-abbrev pub bucketTaken : ℕ → Bool
-bucketTaken n = among (4 ∷ 13 ∷ 18 ∷ 19 ∷ 20 ∷ 21 ∷ 22 ∷ 23 ∷ 24 ∷ []) n
-
-abbrev pub cleanTaken : ℕ → Bool
-cleanTaken n = eqb n 6
-
-abbrev pub valueTaken : ℕ → Bool
-valueTaken n = among (4 ∷ 9 ∷ 10 ∷ 16 ∷ 17 ∷ 22 ∷ []) n
 
 -- ---- when each number applies
 -- 1: the record is not sound
 abbrev pub applies1 : Page → Bool
 applies1 p = not (soundOf p)
-
--- 2: the step is not 1 to 24
-abbrev pub applies2 : Request → Bool
-applies2 q = eqb (q .step) 0 || ltb lastStep (q .step)
-
--- 3: a field not taken is not zero, or clean is above 1
-abbrev pub applies3 : Request → Bool
-applies3 q =
-    (not (bucketTaken (q .step)) && not (eqb (q .bucket .0) 0))
-    || cond (cleanTaken (q .step)) (ltb 1 (q .clean)) (not (eqb (q .clean) 0))
-    || (not (valueTaken (q .step)) && not (eqb (q .value) 0))
-
--- 4: the bucket is taken and above 3
-abbrev pub applies4 : Request → Bool
-applies4 q = bucketTaken (q .step) && not (ltb (q .bucket .0) buckets)
 
 -- 5: a flag premise fails
 abbrev pub applies5 : Page → Request → Bool
@@ -138,22 +111,19 @@ applies10 p q = among raising (q .step) && eqb (numberAt (p .«ref_counts») (q 
 abbrev pub applies11 : Page → Request → Bool
 applies11 p q = among listing (q .step) && eqb (p .readers .len) capacity
 
--- all of them, from 1
-abbrev pub applying : Page → Request → List Bool
-applying p q =
-    applies1 p
-    ∷ applies2 q
-    ∷ applies3 q
-    ∷ applies4 q
-    ∷ applies5 p q
-    ∷ applies6 p q
-    ∷ applies7 p q
-    ∷ applies8 p q
-    ∷ applies9 p q
-    ∷ applies10 p q
-    ∷ applies11 p q
+-- ---- the table
+-- 5 to 11, which are the step's own
+abbrev pub applyingStep : Page → Request → List (ℕ × Bool)
+applyingStep p q =
+    (5, applies5 p q)
+    ∷ (6, applies6 p q)
+    ∷ (7, applies7 p q)
+    ∷ (8, applies8 p q)
+    ∷ (9, applies9 p q)
+    ∷ (10, applies10 p q)
+    ∷ (11, applies11 p q)
     ∷ []
 
--- the number n, 1 to 11, applies; any other n does not
-abbrev pub applies : ℕ → Page → Request → Bool
-applies n p q = getD (false ∷ applying p q) n false
+-- all of them
+abbrev pub applying : Page → Request → List (ℕ × Bool)
+applying p q = (1, applies1 p) ∷ (2, applies2 q) ∷ (3, applies3 q) ∷ (4, applies4 q) ∷ applyingStep p q

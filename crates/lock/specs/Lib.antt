@@ -2,3 +2,4 @@ pub mod Words
 pub mod Step
 pub mod Applies
 pub mod Moves
+pub mod Allowed

@@ -9,7 +9,7 @@
 -- transition's own bucket and value are the request's. A × B: both; A ⊎ B: one of them; x ≢ y: they differ.
 --
 --   the source                                       a line of the constructor
---   transition!{ take_writeback() { .. } }           (step : q .step ≡ 1), document 01's number
+--   transition!{ take_writeback() { .. } }           (step : q .step ≡ 1), its number (RULES 3.2)
 --   take_exc_lock_finish_writeback(clean: bool)      (named : q .clean ≡ cond clean 1 0)
 --   require P;                                       (require : P)
 --   require bucket.is_Some(); .. get_Some_0()        (require : bucket ≡ some get-some)
@@ -41,25 +41,16 @@ use mathlib.Core.Bool.{Bool, true, false, cond, _||_}
 use mathlib.Core.List.{List, [], _∷_, _++_}
 use lib.Dec.{T, eqb}
 use lib.ListN.{length, getD}
+use Rattle.laws.specs.Lists.{among}
+use Rattle.kinds.specs.declared.{Bucket.Bucket, Visited.Visited, Count.Count, MaybeBucket.MaybeBucket, Flag.Flag}
+use Rattle.kinds.specs.declared.{Storage.Storage, Phase.Phase, Reader.Reader, ExcState.ExcState}
+use Rattle.kinds.specs.declared.{LoadingState.LoadingState, WritebackState.WritebackState}
 use Rattle.kinds.specs.Limits.{buckets, ceiling, capacity}
-use Rattle.kinds.specs.declared.Bucket.{Bucket}
-use Rattle.kinds.specs.declared.Visited.{Visited}
-use Rattle.kinds.specs.declared.Count.{Count}
-use Rattle.kinds.specs.declared.MaybeBucket.{MaybeBucket}
-use Rattle.kinds.specs.declared.Flag.{Flag}
-use Rattle.kinds.specs.declared.Storage.{Storage}
-use Rattle.kinds.specs.declared.Phase.{Phase}
-use Rattle.kinds.specs.declared.Reader.{Reader}
-use Rattle.kinds.specs.declared.ExcState.{ExcState}
-use Rattle.kinds.specs.declared.LoadingState.{LoadingState}
-use Rattle.kinds.specs.declared.WritebackState.{WritebackState}
 use Rattle.readers.specs.Listed.{live}
-use Rattle.page_record.specs.declared.Head.{Head}
-use Rattle.page_record.specs.declared.Page.{Page}
+use Rattle.page_record.specs.declared.{Head.Head, Page.Page}
 use Rattle.page_record.specs.Pages.{headOf}
-use Rattle.steps.specs.declared.Answer.{Answer}
-use Rattle.steps.specs.declared.Request.{Request}
-use Rattle.lock.specs.Words.{among, raising, listing}
+use Rattle.requests.specs.declared.{Answer.Answer, Request.Request}
+use Rattle.lock.specs.Words.{raising, listing}
 
 -- ---- the source's words
 -- fields { .. }, line 107; the multiset of readers is a list

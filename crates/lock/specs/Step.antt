@@ -3,24 +3,18 @@ use mathlib.Core.Bool.{cond}
 use mathlib.Core.List.{List, [], _∷_, _++_}
 use lib.Dec.{leb}
 use lib.ListN.{length, set}
-use Rattle.kinds.specs.Limits.{capacity}
+use Rattle.laws.specs.Lists.{without}
 use Rattle.kinds.specs.declared.Reader.{Reader}
-use Rattle.readers.specs.declared.Readers.{Readers}
-use Rattle.readers.specs.declared.Found.{Found}
-use Rattle.readers.specs.Lists.{without}
+use Rattle.kinds.specs.Limits.{capacity}
+use Rattle.readers.specs.declared.{Readers.Readers, Found.Found}
 use Rattle.readers.specs.Listed.{live, findIn, pushed, putAt, removedAt}
-use Rattle.page_record.specs.declared.Head.{Head}
-use Rattle.page_record.specs.declared.Page.{Page}
+use Rattle.page_record.specs.declared.{Head.Head, Page.Page}
 use Rattle.page_record.specs.Pages.{headOf, pageOf}
-use Rattle.page_record.specs.Rules.{soundOf}
-use Rattle.steps.specs.declared.Refusal.{Refusal}
-use Rattle.steps.specs.declared.Answer.{Answer}
-use Rattle.steps.specs.declared.Verdict.{Verdict}
-use Rattle.steps.specs.declared.Edit.{Edit}
+use Rattle.soundness.specs.Soundness.{soundOf}
+use Rattle.requests.specs.declared.{Refusal.Refusal, Answer.Answer, Verdict.Verdict, Request.Request}
+use Rattle.requests.specs.Requests.{judged}
+use Rattle.heads.specs.declared.{Edit.Edit, Decision.Decision}
 use Rattle.steps.specs.declared.Sought.{Sought}
-use Rattle.steps.specs.declared.Request.{Request}
-use Rattle.steps.specs.declared.Decision.{Decision}
-use Rattle.steps.specs.Requests.{judged}
 use Rattle.steps.specs.Decide.{decideOf, soughtOf}
 use Rattle.lock.specs.declared.Outcome.{Outcome}
 

@@ -1,15 +1,7 @@
--- Words that several statements use: steps by what they do.
+-- Words that several statements use: steps by what they do (RULES 3.2 and 9).
 use Prim.Native.Nat.{ℕ}
-use mathlib.Core.Bool.{Bool, false, _||_}
 use mathlib.Core.List.{List, [], _∷_}
-use lib.Dec.{eqb}
 
--- n is one of these numbers
-abbrev pub among : List ℕ → ℕ → Bool
-among [] n = false
-among (x ∷ xs) n = eqb n x || among xs n
-
--- ---- steps by their numbers
 -- one more at the bucket that the request names
 abbrev pub raising : List ℕ
 raising = 13 ∷ 18 ∷ 19 ∷ []

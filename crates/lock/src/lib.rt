@@ -2,12 +2,12 @@
 // request's fields; then the step is decided on the page's head, and its edit is made in the list of readers.
 ghost use mathlib.Core.Path.{_≡_};
 ghost use Rattle.readers.specs.Listed.{live};
+ghost use Rattle.requests.specs.declared.Verdict.{Verdict};
 ghost use Rattle.lock.specs.Step.{lookFor, editedIn, refusedBy, stepped, stepOf};
-ghost use Rattle.steps.specs.declared.Verdict.{Verdict};
+use heads::Edit;
 use kinds::CAPACITY;
 use page_record::Page;
 use page_record::head_of;
-use page_record::is_sound;
 use page_record::page_of;
 use readers::Found;
 use readers::Readers;
@@ -15,14 +15,14 @@ use readers::find;
 use readers::push;
 use readers::put;
 use readers::remove;
-use steps::Answer;
-use steps::Edit;
-use steps::Refusal;
-use steps::Request;
+use requests::Answer;
+use requests::Refusal;
+use requests::Request;
+use requests::Verdict;
+use requests::judge;
+use soundness::is_sound;
 use steps::Sought;
-use steps::Verdict;
 use steps::decide;
-use steps::judge;
 use steps::sought_by;
 
 // What a step answers, and the page that it leaves.
@@ -105,11 +105,12 @@ pub fn apply(page: &mut Page, request: Request) -> Answer
     out.answer
 }
 
-// A page of one's own, lent for one step: whoever calls this passes and gets plain values.
-pub fn lend(page: Page, request: Request) -> Outcome
-    ensures { λ r. ⌜ r ≡ stepOf page request ⌝ }
+// A page of one's own, lent for one step: it is there so that others need no walk by hand. Whoever calls this passes and gets plain
+// values.
+pub fn lend(own: Page, request: Request) -> Outcome
+    ensures { λ r. ⌜ r ≡ stepOf own request ⌝ }
 {
-    let mut p = page;
+    let mut p = own;
     let a = apply(&mut p, request);
     Outcome { answer: a, page: p }
 }

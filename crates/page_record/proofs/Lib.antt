@@ -1,7 +1,1 @@
-pub mod Lengths
-pub mod Shapes
-pub mod Known
-pub mod Broken
-pub mod Tested
-pub mod FreshPage
-pub mod CensusSums
+pub mod Inversions

@@ -3,14 +3,9 @@
 use Prim.Native.Nat.{ℕ}
 use mathlib.Core.Bool.{Bool, true, false, Bool·beq}
 use lib.Dec.{eqb, ltb}
+use Rattle.kinds.specs.declared.{Bucket.Bucket, Visited.Visited, MaybeBucket.MaybeBucket, Storage.Storage}
+use Rattle.kinds.specs.declared.{ExcState.ExcState, LoadingState.LoadingState, WritebackState.WritebackState}
 use Rattle.kinds.specs.Limits.{buckets}
-use Rattle.kinds.specs.declared.Bucket.{Bucket}
-use Rattle.kinds.specs.declared.Visited.{Visited}
-use Rattle.kinds.specs.declared.MaybeBucket.{MaybeBucket}
-use Rattle.kinds.specs.declared.Storage.{Storage}
-use Rattle.kinds.specs.declared.ExcState.{ExcState}
-use Rattle.kinds.specs.declared.LoadingState.{LoadingState}
-use Rattle.kinds.specs.declared.WritebackState.{WritebackState}
 
 -- ---- storage
 abbrev pub isStored : Storage → Bool
@@ -135,18 +130,18 @@ isCounted LoadingState.Pending = false
 isCounted (LoadingState.PendingCounted bucket) = true
 isCounted (LoadingState.Obtained bucket) = false
 
-abbrev pub isLoaded : LoadingState → Bool
-isLoaded LoadingState.None = false
-isLoaded LoadingState.Pending = false
-isLoaded (LoadingState.PendingCounted bucket) = false
-isLoaded (LoadingState.Obtained bucket) = true
+abbrev pub isLoading : LoadingState → Bool
+isLoading LoadingState.None = false
+isLoading LoadingState.Pending = false
+isLoading (LoadingState.PendingCounted bucket) = false
+isLoading (LoadingState.Obtained bucket) = true
 
 -- a loader that has not come to Obtained
-abbrev pub isBefore : LoadingState → Bool
-isBefore LoadingState.None = false
-isBefore LoadingState.Pending = true
-isBefore (LoadingState.PendingCounted bucket) = true
-isBefore (LoadingState.Obtained bucket) = false
+abbrev pub isBeforeLoading : LoadingState → Bool
+isBeforeLoading LoadingState.None = false
+isBeforeLoading LoadingState.Pending = true
+isBeforeLoading (LoadingState.PendingCounted bucket) = true
+isBeforeLoading (LoadingState.Obtained bucket) = false
 
 abbrev pub loadingBucket : LoadingState → MaybeBucket
 loadingBucket LoadingState.None = MaybeBucket.None

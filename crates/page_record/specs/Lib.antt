@@ -1,7 +1,3 @@
 pub mod Holders
 pub mod Pages
 pub mod References
-pub mod Rules
-pub mod Census
-pub mod Facts
-pub mod Shapes

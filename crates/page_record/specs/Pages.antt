@@ -1,18 +1,24 @@
--- A page is a head, everything but the readers, and the readers. The fresh page.
+-- A page is a head, everything but the readers, and the readers. The fresh page (RULES 1.5).
 use Prim.Native.Nat.{ℕ}
 use mathlib.Core.List.{List}
 use lib.ListN.{getD, replicate}
+use Rattle.kinds.specs.declared.{Count.Count, Flag.Flag, Storage.Storage, ExcState.ExcState, LoadingState.LoadingState}
+use Rattle.kinds.specs.declared.{WritebackState.WritebackState}
 use Rattle.kinds.specs.Limits.{buckets}
-use Rattle.kinds.specs.declared.Count.{Count}
-use Rattle.kinds.specs.declared.Flag.{Flag}
-use Rattle.kinds.specs.declared.Storage.{Storage}
-use Rattle.kinds.specs.declared.ExcState.{ExcState}
-use Rattle.kinds.specs.declared.LoadingState.{LoadingState}
-use Rattle.kinds.specs.declared.WritebackState.{WritebackState}
 use Rattle.readers.specs.declared.Readers.{Readers}
 use Rattle.readers.specs.Listed.{noReaders}
-use Rattle.page_record.specs.declared.Head.{Head}
-use Rattle.page_record.specs.declared.Page.{Page}
+use Rattle.page_record.specs.declared.{Head.Head, Page.Page}
+
+-- a head of these parts, in the record's order
+abbrev pub headWith : Storage → Flag → List Count → ExcState → LoadingState → WritebackState → Head
+headWith s f cs e l w = record {
+  storage = s;
+  flag = f;
+  «ref_counts» = cs;
+  «exc_state» = e;
+  «loading_state» = l;
+  «writeback_state» = w;
+}
 
 -- the page without its readers
 abbrev pub headOf : Page → Head

@@ -3,10 +3,7 @@ use Prim.Native.Nat.{ℕ, _+_}
 use mathlib.Core.Bool.{cond}
 use mathlib.Core.List.{List}
 use lib.Dec.{eqb}
-use Rattle.kinds.specs.declared.MaybeBucket.{MaybeBucket}
-use Rattle.kinds.specs.declared.Reader.{Reader}
-use Rattle.kinds.specs.declared.ExcState.{ExcState}
-use Rattle.kinds.specs.declared.LoadingState.{LoadingState}
+use Rattle.kinds.specs.declared.{MaybeBucket.MaybeBucket, Reader.Reader, ExcState.ExcState, LoadingState.LoadingState}
 use Rattle.readers.specs.Listed.{countAt}
 use Rattle.page_record.specs.Holders.{excBucket, loadingBucket}
 

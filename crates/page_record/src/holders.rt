@@ -1,6 +1,8 @@
 // What the rules ask of storage and of each holder, and which bucket a holder has. Every kind has an arm of its own.
 ghost use mathlib.Core.Path.{_≡_};
-ghost use Rattle.page_record.specs.Holders.{isStored, holds, hasBucket, validBucket, noExc, isClaim, isAwait, isEditing, isLocked, excBucket, excVisited, noLoad, isLoaded, isBefore, loadingBucket, noWriteback};
+ghost use Rattle.page_record.specs.Holders.{isStored, holds, validBucket, noExc, isClaim, isAwait, isEditing};
+ghost use Rattle.page_record.specs.Holders.{isLocked, excBucket, excVisited, noLoad, isLoading, isBeforeLoading};
+ghost use Rattle.page_record.specs.Holders.{loadingBucket, noWriteback};
 use kinds::BUCKETS;
 use kinds::ExcState;
 use kinds::LoadingState;
@@ -25,15 +27,6 @@ pub fn holds(s: Storage, v: u64) -> bool
     match s {
         Storage::Out => false,
         Storage::In(value) => value == v,
-    }
-}
-
-pub fn has_bucket(m: MaybeBucket) -> bool
-    ensures { λ r. ⌜ r ≡ hasBucket m ⌝ }
-{
-    match m {
-        MaybeBucket::None => false,
-        MaybeBucket::At(_) => true,
     }
 }
 
@@ -144,8 +137,8 @@ pub fn no_load(l: LoadingState) -> bool
     }
 }
 
-pub fn is_loaded(l: LoadingState) -> bool
-    ensures { λ r. ⌜ r ≡ isLoaded l ⌝ }
+pub fn is_loading(l: LoadingState) -> bool
+    ensures { λ r. ⌜ r ≡ isLoading l ⌝ }
 {
     match l {
         LoadingState::None => false,
@@ -156,8 +149,8 @@ pub fn is_loaded(l: LoadingState) -> bool
 }
 
 // A loader that has not come to Obtained.
-pub fn is_before(l: LoadingState) -> bool
-    ensures { λ r. ⌜ r ≡ isBefore l ⌝ }
+pub fn is_before_loading(l: LoadingState) -> bool
+    ensures { λ r. ⌜ r ≡ isBeforeLoading l ⌝ }
 {
     match l {
         LoadingState::None => false,

@@ -1,36 +1,37 @@
-// The page record: what stands in it, whether it is sound, and the census of its readers. Every function takes any record,
-// also one that is broken, and its promise is an equation.
-mod holders;
-mod limits;
-mod references;
-mod rows;
-mod rules;
-
+// The page record: what stands in it, and a fresh one. Every function takes any record, also one that is broken, and its promise
+// is an equation. Whether a record is sound is judged in `soundness`, rule by rule in `rules`.
 ghost use mathlib.Core.Path.{_≡_};
 ghost use Rattle.page_record.specs.Pages.{headOf, pageOf, freshPage};
-ghost use Rattle.page_record.specs.Rules.{lowestBroken, soundOf, soundNumber};
-ghost use Rattle.page_record.specs.Census.{censusOf};
-use crate::limits::limits_kept;
-use crate::rows::census_row;
-use crate::rules::exc_state_invariants;
-use crate::rules::first_broken;
-use crate::rules::flag_invariant;
-use crate::rules::loading_state_invariants;
-use crate::rules::ref_count_invariant;
-use crate::rules::shared_storage_invariant;
-use crate::rules::storage_some_invariant;
-use crate::rules::writeback_state_invariants;
+ghost use Rattle.page_record.specs.References.{refAt};
+
+mod holders;
+
+pub use holders::exc_bucket;
+pub use holders::exc_visited;
+pub use holders::holds;
+pub use holders::is_await;
+pub use holders::is_before_loading;
+pub use holders::is_claim;
+pub use holders::is_editing;
+pub use holders::is_loading;
+pub use holders::is_locked;
+pub use holders::is_stored;
+pub use holders::loading_bucket;
+pub use holders::no_exc;
+pub use holders::no_load;
+pub use holders::no_writeback;
+pub use holders::valid_bucket;
 use kinds::BUCKETS;
 use kinds::Bucket;
 use kinds::Count;
 use kinds::ExcState;
 use kinds::Flag;
 use kinds::LoadingState;
+use kinds::MaybeBucket;
 use kinds::Storage;
 use kinds::WritebackState;
 use readers::Readers;
 use readers::empty;
-pub use references::ref_at;
 
 // The record, field for field as in the source.
 pub struct Page {
@@ -117,58 +118,12 @@ pub fn page_of(head: Head, readers: Readers) -> Page
     }
 }
 
-// The lowest broken rule, 1 to 8; 0 where none is broken.
-pub fn broken_rule(page: Page) -> u8
-    ensures { λ r. ⌜ r ≡ lowestBroken page ⌝ }
+// A holder's reference at a bucket: 1 where that is its own, else 0.
+pub fn ref_at(own: MaybeBucket, b: Bucket) -> usize
+    ensures { λ r. ⌜ r ≡ refAt own (b .0) ⌝ }
 {
-    let storage = page.storage;
-    let flag = page.flag;
-    let counts = page.ref_counts;
-    let readers = page.readers;
-    let exc = page.exc_state;
-    let loading = page.loading_state;
-    let writeback = page.writeback_state;
-    let head = head_of(page);
-    first_broken([
-        storage_some_invariant(storage, exc, loading),
-        exc_state_invariants(exc, storage, loading, writeback),
-        writeback_state_invariants(writeback, storage, loading),
-        loading_state_invariants(loading, writeback),
-        ref_count_invariant(counts, readers, exc, loading),
-        flag_invariant(flag, exc, loading, writeback),
-        shared_storage_invariant(head, readers),
-        limits_kept(head, readers),
-    ])
-}
-
-// Whether no rule is broken.
-pub fn is_sound(page: Page) -> bool
-    ensures { λ r. ⌜ r ≡ soundOf page ⌝ }
-{
-    broken_rule(page) == 0
-}
-
-// Document 01's number: 0 where the record is sound, else 1.
-pub fn sound(page: Page) -> u8
-    ensures { λ r. ⌜ r ≡ soundNumber page ⌝ }
-{
-    if is_sound(page) { 0 } else { 1 }
-}
-
-// How many readers stand at each bucket in each phase; all zeros for a record that isn't sound.
-pub fn census(page: Page) -> [[Count; 3]; BUCKETS as usize]
-    ensures { λ r. ⌜ r ≡ censusOf page ⌝ }
-{
-    if is_sound(page) {
-        let readers = page.readers;
-        let row0 = census_row(readers, Bucket(0));
-        let row1 = census_row(readers, Bucket(1));
-        let row2 = census_row(readers, Bucket(2));
-        let row3 = census_row(readers, Bucket(3));
-        [row0, row1, row2, row3]
-    } else {
-        let nobody = Count(0);
-        let none = [nobody; 3];
-        [none; BUCKETS as usize]
+    match own {
+        MaybeBucket::None => 0,
+        MaybeBucket::At(bucket) => if bucket.0 == b.0 { 1 } else { 0 },
     }
 }

@@ -10,14 +10,14 @@ use borrow.Author.Tests.{lt-ltb, le-leb}
 use lib.Dec.{T}
 use lib.ListN.{length, drop, set, replicate, length-append, length-drop, length-set, length-replicate, take-append-drop}
 use lib.Seq.{take-append-seam, drop-append-seam, set-append-seam, set-append-left, append-snoc, length-take-le}
-use Rattle.kinds.specs.Limits.{capacity}
+use Rattle.laws.specs.Lists.{every, without}
+use Rattle.laws.proofs.Tests.{halves}
+use Rattle.laws.proofs.Lists.{length-without, every-replicate}
 use Rattle.kinds.specs.declared.Reader.{Reader}
+use Rattle.kinds.specs.Limits.{capacity}
 use Rattle.readers.specs.declared.Readers.{Readers}
-use Rattle.readers.specs.Lists.{every, without}
 use Rattle.readers.specs.Same.{sameReader}
 use Rattle.readers.specs.Listed.{live, blankReader, listed, blankPast, pushed, putAt, removedAt}
-use Rattle.readers.proofs.Tests.{halves}
-use Rattle.readers.proofs.Lists.{length-without, every-replicate}
 use Rattle.readers.proofs.Equal.{same-refl, same-is}
 
 -- ---- the array of a list

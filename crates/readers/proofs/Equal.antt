@@ -1,10 +1,9 @@
 -- The test `sameReader` is equality. Assumes nothing.
 use mathlib.Core.Path.{_≡_, refl, ap}
 use lib.Dec.{T, eqb, eqb→eq, eqb-refl}
-use Rattle.kinds.specs.declared.Phase.{Phase}
-use Rattle.kinds.specs.declared.Reader.{Reader}
+use Rattle.laws.proofs.Tests.{both, halves}
+use Rattle.kinds.specs.declared.{Phase.Phase, Reader.Reader}
 use Rattle.readers.specs.Same.{samePhase, sameReader}
-use Rattle.readers.proofs.Tests.{both, halves}
 
 phase-refl : (p : Phase) → T (samePhase p p)
 phase-refl Phase.Pending = tt

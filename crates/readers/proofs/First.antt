@@ -11,13 +11,13 @@ use native.Mathlib.Omega.{arith}
 use lib.Dec.{T}
 use lib.ListN.{length, take, drop, getD, set}
 use lib.Seq.{split-at, set-append-seam}
+use Rattle.laws.specs.Lists.{every, without}
+use Rattle.laws.proofs.Tests.{is-true, to-true, is-false, to-false, both, halves}
+use Rattle.laws.proofs.Lists.{without-split}
 use Rattle.kinds.specs.declared.Reader.{Reader}
 use Rattle.readers.specs.declared.Found.{Found}
-use Rattle.readers.specs.Lists.{every, without}
 use Rattle.readers.specs.Same.{sameReader}
 use Rattle.readers.specs.Listed.{findFrom, findIn, blankReader}
-use Rattle.readers.proofs.Tests.{is-true, to-true, is-false, to-false, both, halves}
-use Rattle.readers.proofs.Lists.{without-split}
 use Rattle.readers.proofs.Equal.{same-refl, same-is}
 
 -- x is not among them

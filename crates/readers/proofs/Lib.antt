@@ -1,6 +1,3 @@
-pub mod Tests
-pub mod Lists
 pub mod Equal
 pub mod First
 pub mod Bridge
-pub mod Turns

@@ -5,15 +5,12 @@ use mathlib.Core.Bool.{Bool, true, false, cond, _&&_}
 use mathlib.Core.List.{List, [], _∷_, _++_}
 use lib.Dec.{eqb, ltb, leb}
 use lib.ListN.{length, take, drop, set, replicate}
+use Rattle.laws.specs.Lists.{tally, every, without}
+use Rattle.kinds.specs.declared.{Phase.Phase, Reader.Reader}
 use Rattle.kinds.specs.Limits.{capacity}
 use Rattle.kinds.specs.Numbers.{phaseNumber}
-use Rattle.kinds.specs.declared.Phase.{Phase}
-use Rattle.kinds.specs.declared.Reader.{Reader}
-use Rattle.readers.specs.Lists.{tally, every, without}
+use Rattle.readers.specs.declared.{Readers.Readers, Found.Found, Pushed.Pushed}
 use Rattle.readers.specs.Same.{sameReader}
-use Rattle.readers.specs.declared.Readers.{Readers}
-use Rattle.readers.specs.declared.Found.{Found}
-use Rattle.readers.specs.declared.Pushed.{Pushed}
 
 -- ---- the array and the list
 -- the readers that count: the first `len` of the array

@@ -1,8 +1,7 @@
 -- When two readers are the same: the same phase, with the same value where it has one, at the same bucket.
 use mathlib.Core.Bool.{Bool, true, false, _&&_}
 use lib.Dec.{eqb}
-use Rattle.kinds.specs.declared.Phase.{Phase}
-use Rattle.kinds.specs.declared.Reader.{Reader}
+use Rattle.kinds.specs.declared.{Phase.Phase, Reader.Reader}
 
 abbrev pub samePhase : Phase → Phase → Bool
 samePhase Phase.Pending Phase.Pending = true

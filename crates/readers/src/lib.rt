@@ -3,7 +3,8 @@
 // equation.
 ghost use mathlib.Core.Path.{_≡_};
 ghost use Rattle.readers.specs.Same.{samePhase, sameReader};
-ghost use Rattle.readers.specs.Listed.{live, blankReader, blankPast, findIn, countAt, isIn, countIn, noReaders, pushed, putAt, removedAt};
+ghost use Rattle.readers.specs.Listed.{live, blankReader, blankPast, findIn, countAt, isIn, countIn, noReaders};
+ghost use Rattle.readers.specs.Listed.{pushed, putAt, removedAt};
 use kinds::Bucket;
 use kinds::CAPACITY;
 use kinds::Phase;
@@ -84,14 +85,13 @@ pub fn empty() -> Readers
 pub fn find(rs: Readers, want: Reader) -> Found
     ensures { λ r. ⌜ r ≡ findIn (live rs) want ⌝ }
 {
-    let items = rs.items;
     let len = rs.len;
     let mut i: usize = 0;
     while i < CAPACITY {
         if len <= i {
             return Found::Nowhere;
         }
-        let r = items[i];
+        let r = rs.items[i];
         if same(r, want) {
             return Found::At(i);
         }
@@ -104,7 +104,6 @@ pub fn find(rs: Readers, want: Reader) -> Found
 pub fn count_at(rs: Readers, bucket: Bucket) -> usize
     ensures { λ r. ⌜ r ≡ countAt (bucket .0) (live rs) ⌝ }
 {
-    let items = rs.items;
     let len = rs.len;
     let mut n: usize = 0;
     let mut i: usize = 0;
@@ -112,7 +111,7 @@ pub fn count_at(rs: Readers, bucket: Bucket) -> usize
         if len <= i {
             return n;
         }
-        let r = items[i];
+        let r = rs.items[i];
         let b = r.bucket;
         if b.0 == bucket.0 {
             n += 1;
@@ -139,7 +138,6 @@ fn stands_in(r: Reader, bucket: Bucket, phase: u8) -> bool
 pub fn count_in(rs: Readers, bucket: Bucket, phase: u8) -> usize
     ensures { λ r. ⌜ r ≡ countIn (bucket .0) phase (live rs) ⌝ }
 {
-    let items = rs.items;
     let len = rs.len;
     let mut n: usize = 0;
     let mut i: usize = 0;
@@ -147,7 +145,7 @@ pub fn count_in(rs: Readers, bucket: Bucket, phase: u8) -> usize
         if len <= i {
             return n;
         }
-        let r = items[i];
+        let r = rs.items[i];
         if stands_in(r, bucket, phase) {
             n += 1;
         }
@@ -160,10 +158,9 @@ pub fn count_in(rs: Readers, bucket: Bucket, phase: u8) -> usize
 pub fn blank_past(rs: Readers) -> bool
     ensures { λ r. ⌜ r ≡ blankPast rs ⌝ }
 {
-    let items = rs.items;
     let mut i = rs.len;
     while i < CAPACITY {
-        let r = items[i];
+        let r = rs.items[i];
         if !same(blank(), r) {
             return false;
         }

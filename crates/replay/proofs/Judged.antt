@@ -10,16 +10,14 @@ use borrow.Author.Tests.{eq-eqb, le-leb, lt-leb, eqb-true, ltb-true, ltb-false}
 use lib.Dec.{eqb, ltb, eqb→eq, leb→le}
 use lib.ListN.{length, take}
 use lib.Seq.{take-all}
-use Rattle.kinds.specs.Limits.{recordSize, mostRequests}
-use Rattle.readers.proofs.Tests.{to-true}
+use Rattle.laws.proofs.Tests.{to-true}
+use Rattle.kinds.specs.Limits.{lineSize, mostRequests}
 use Rattle.page_record.specs.declared.Page.{Page}
 use Rattle.page_record.specs.Pages.{freshPage}
-use Rattle.page_record.specs.Rules.{soundOf}
-use Rattle.page_record.proofs.FreshPage.{fresh-sound}
-use Rattle.steps.specs.declared.Refusal.{Refusal}
-use Rattle.steps.specs.declared.Answer.{Answer}
-use Rattle.steps.specs.declared.Verdict.{Verdict}
-use Rattle.steps.proofs.Verdicts.{passed as all-hold}
+use Rattle.soundness.specs.Soundness.{soundOf}
+use Rattle.soundness.proofs.FreshPage.{fresh-sound}
+use Rattle.requests.specs.declared.{Refusal.Refusal, Answer.Answer, Verdict.Verdict}
+use Rattle.requests.proofs.Verdicts.{passed as all-hold}
 use Rattle.wire.specs.Buffers.{answerFor}
 use Rattle.wire.proofs.Premises.{answer-passed, answer-failed}
 use Rattle.replay.specs.Run.{wholePremises, runVerdict, ends, ranOf}
@@ -27,31 +25,31 @@ use Rattle.replay.specs.Reply.{longest, tooLong, inputVerdict}
 
 -- ---- what is asked of a run
 -- a run of so many bytes, with so much space for its answers, is not refused as a whole
-pub record Allowed (page : Page) (bytes space : ℕ) : Type 0 where
+pub record Fit (page : Page) (bytes space : ℕ) : Type 0 where
   pub sound : soundOf page ≡ true
-  pub whole : bytes % recordSize ≡ 0
-  pub few : bytes / recordSize ≤ mostRequests
-  pub room : recordSize * (bytes / recordSize) ≤ space
+  pub whole : bytes % lineSize ≡ 0
+  pub few : bytes / lineSize ≤ mostRequests
+  pub room : lineSize * (bytes / lineSize) ≤ space
 
 module _ {page : Page} {bytes space : ℕ} where
-  pub allowed : runVerdict page bytes space ≡ Verdict.Passed → Allowed page bytes space
+  pub fit : runVerdict page bytes space ≡ Verdict.Passed → Fit page bytes space
   unfolding runVerdict
-  allowed e =
+  fit e =
       let p = all-hold (wholePremises (soundOf page) bytes space) e in
       record {
         sound = to-true (soundOf page) (p .0);
-        whole = eqb→eq (bytes % recordSize) 0 (p .1 .0);
-        few = leb→le (bytes / recordSize) mostRequests (p .1 .1 .0);
-        room = leb→le (recordSize * (bytes / recordSize)) space (p .1 .1 .1 .0);
+        whole = eqb→eq (bytes % lineSize) 0 (p .1 .0);
+        few = leb→le (bytes / lineSize) mostRequests (p .1 .1 .0);
+        room = leb→le (lineSize * (bytes / lineSize)) space (p .1 .1 .1 .0);
       }
 
-  pub passed : Allowed page bytes space → runVerdict page bytes space ≡ Verdict.Passed
+  pub passed : Fit page bytes space → runVerdict page bytes space ≡ Verdict.Passed
   unfolding runVerdict
   passed a = simp (a .sound, eq-eqb _ _ (a .whole), le-leb _ _ (a .few), le-leb _ _ (a .room))
 
 -- ---- the answer tells the verdict
 -- a run is answered as a writing is
-ends-answer : (page : Page) (requests : List ℕ) (v : Verdict) → answerFor v ≡ ends page requests v .answer
+pub ends-answer : (page : Page) (requests : List ℕ) (v : Verdict) → answerFor v ≡ ends page requests v .answer
 ends-answer page requests Verdict.Passed = refl
 ends-answer page requests (Verdict.Failed why) = refl
 
@@ -73,11 +71,11 @@ module _ (page : Page) (requests answers : List ℕ) where
 -- ---- the program's input
 module _ (total space : ℕ) (long : longest < total) where
   -- an input that is longer than a run is refused for what the run is refused for
-  judged-long : (whole : Bool) → eqb (total % recordSize) 0 ≡ whole
+  judged-long : (whole : Bool) → eqb (total % lineSize) 0 ≡ whole
       → Verdict.Failed (tooLong total) ≡ runVerdict (freshPage 0) total space
   unfolding runVerdict
   judged-long true e =
-      let many : mostRequests < total / recordSize = omega (arith, eqb-true (total % recordSize) 0 e) in
+      let many : mostRequests < total / lineSize = omega (arith, eqb-true (total % lineSize) 0 e) in
       simp (to-true (soundOf (freshPage 0)) (fresh-sound 0), e, lt-leb _ _ many)
   judged-long false e = simp (to-true (soundOf (freshPage 0)) (fresh-sound 0), e)
 
@@ -91,5 +89,5 @@ input-judged input space = go (ltb longest (length input)) refl
         → inputVerdict (take longest input) (length input) space ≡ runVerdict (freshPage 0) (length input) space
     go true e =
         let long = ltb-true longest (length input) e in
-        rw e (judged-long (length input) space long (eqb (length input % recordSize) 0) refl)
+        rw e (judged-long (length input) space long (eqb (length input % lineSize) 0) refl)
     go false e = rw (e, take-all longest input (ltb-false longest (length input) e))

@@ -4,3 +4,4 @@ pub mod Pages
 pub mod Lines
 pub mod Loop
 pub mod Replies
+pub mod Least

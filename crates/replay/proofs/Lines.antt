@@ -8,15 +8,15 @@ use native.Mathlib.Omega.{arith}
 use native.Mathlib.Nat.{mul-zero, mul-suc, mul-le-mul-left}
 use lib.ListN.{length, take, drop, getD, length-append, length-drop}
 use lib.Seq.{take-at, drop-at, take-append-le, drop-append-le, drop-append-add}
-use Rattle.kinds.specs.Limits.{recordSize}
+use Rattle.kinds.specs.Limits.{lineSize}
 use Rattle.page_record.specs.declared.Page.{Page}
-use Rattle.steps.specs.declared.Answer.{Answer}
-use Rattle.steps.specs.declared.Verdict.{Verdict}
+use Rattle.requests.specs.declared.{Answer.Answer, Verdict.Verdict}
 use Rattle.wire.specs.Answers.{lineOf}
 use Rattle.wire.proofs.Lines.{length-line}
 use Rattle.replay.specs.Turns.{turnOf}
-use Rattle.replay.specs.Run.{requestsOf, pageAfter, linesOf, recordAt, pageAt, runVerdict, ends, fills, ranOf, answersOf}
-use Rattle.replay.proofs.Judged.{allowed, verdict-accepted}
+use Rattle.replay.specs.Run.{requestsOf, pageAfter, linesOf, lineAt, pageAt, runVerdict, ends, fills, ranOf}
+use Rattle.replay.specs.Run.{answersOf}
+use Rattle.replay.proofs.Judged.{fit, verdict-accepted}
 use Rattle.replay.proofs.Pages.{length-requests, request-at}
 
 -- ---- the lines
@@ -54,19 +54,19 @@ line-in w n k l rest e h =
     let i : w ≤ length (drop (w * k) l) = simp length-drop (omega arith) in
     ap (take w) (drop-append-le (w * k) l rest (omega arith)) ∙ take-append-le w (drop (w * k) l) rest i
 
-pub length-lines : (page : Page) (qs : List (List ℕ)) → length (linesOf page qs) ≡ recordSize * length qs
-length-lines = length-of recordSize length-line
+pub length-lines : (page : Page) (qs : List (List ℕ)) → length (linesOf page qs) ≡ lineSize * length qs
+length-lines = length-of lineSize length-line
 
 -- ---- the buffer
 -- a run that passes has as many bytes of lines as of requests
 module _ (page : Page) (requests : List ℕ) (space : ℕ) (passed : runVerdict page (length requests) space ≡ Verdict.Passed) where
   pub lines-fit : length (linesOf page (requestsOf requests)) ≡ length requests
   lines-fit =
-      let a = allowed passed in
+      let a = fit passed in
       simp (length-lines page (requestsOf requests), length-requests requests) (omega arith)
 
   pub requests-fit : length requests ≤ space
-  requests-fit = let a = allowed passed in omega arith
+  requests-fit = let a = fit passed in omega arith
 
 -- its length never changes
 module _ (page : Page) (requests answers : List ℕ) where
@@ -94,14 +94,14 @@ module _ (page : Page) (requests answers : List ℕ) (accepted : ranOf page requ
   page-end = ap (λ (v : Verdict). ends page requests v .page) (verdict-accepted page requests answers accepted)
 
   -- line k is the answer to request k, from the page that the first k requests left
-  pub line-at : (k : ℕ) → k < length requests / recordSize
-      → recordAt k (answersOf page requests answers) ≡ lineOf (turnOf (pageAt k page requests) (recordAt k requests) .answer)
+  pub line-at : (k : ℕ) → k < length requests / lineSize
+      → lineAt k (answersOf page requests answers) ≡ lineOf (turnOf (pageAt k page requests) (lineAt k requests) .answer)
   line-at k h =
       let qs = requestsOf requests in
       let in-range : k < length qs = rw length-requests h in
-      ap (recordAt k) answers-are
-      ∙ line-in recordSize (length qs) k (linesOf page qs) (drop (length requests) answers) (length-lines page qs) in-range
-      ∙ line-of recordSize length-line page qs k in-range
+      ap (lineAt k) answers-are
+      ∙ line-in lineSize (length qs) k (linesOf page qs) (drop (length requests) answers) (length-lines page qs) in-range
+      ∙ line-of lineSize length-line page qs k in-range
       ∙ ap (λ (q : List ℕ). lineOf (turnOf (pageAt k page requests) q .answer)) (request-at requests k h)
 
   -- the bytes past the last line stay

@@ -9,7 +9,7 @@ use native.Mathlib.Omega.{arith}
 use borrow.Rule.Slice.PartMut.{midOf, putMid, post-is, mid-len, same-len-mid, drop-put}
 use lib.ListN.{length, take, drop, length-append, take-append-drop}
 use lib.Seq.{drop-drop, take-at, length-take-le}
-use Rattle.kinds.specs.Limits.{recordSize}
+use Rattle.kinds.specs.Limits.{lineSize}
 use Rattle.page_record.specs.declared.Page.{Page}
 use Rattle.lock.specs.declared.Outcome.{Outcome}
 use Rattle.wire.specs.Answers.{lineOf}
@@ -61,61 +61,61 @@ module _ (old line rest : List ℕ) (at w k : ℕ) (room : at + w + k ≤ length
 -- ---- the invariant
 -- n requests of qs are still to come, from the byte `at` on
 pub record Going (qs old₀ : List ℕ) (page₀ : Page) (n₀ : ℕ) (old : List ℕ) (page : Page) (n at : ℕ) : Type 0 where
-  pub ahead : at + recordSize * n ≡ length qs
+  pub ahead : at + lineSize * n ≡ length qs
   pub room : length qs ≤ length old
   pub long : length old ≡ length old₀
-  pub ends : pageAfter page₀ (cut recordSize n₀ qs) ≡ pageAfter page (cut recordSize n (drop at qs))
-  pub says : linesOf page₀ (cut recordSize n₀ qs) ++ drop (length qs) old₀
-      ≡ take at old ++ linesOf page (cut recordSize n (drop at qs)) ++ drop (length qs) old
+  pub ends : pageAfter page₀ (cut lineSize n₀ qs) ≡ pageAfter page (cut lineSize n (drop at qs))
+  pub says : linesOf page₀ (cut lineSize n₀ qs) ++ drop (length qs) old₀
+      ≡ take at old ++ linesOf page (cut lineSize n (drop at qs)) ++ drop (length qs) old
 
 module _ {qs old₀ : List ℕ} {page₀ : Page} {n₀ : ℕ} {old : List ℕ} {page : Page} {n at : ℕ}
     (g : Going qs old₀ page₀ n₀ old page n at) where
   -- a turn: the request's outcome, by the bytes that are read, and its line, put where its answer goes
   pub going : (o : Outcome) (ys : List ℕ) → 0 < n
-      → o ≡ turnOf page (take (at + recordSize - at) (drop at qs))
-      → ys ≡ putTo (lineOf (o .answer)) (midOf at (at + recordSize - at) old)
-      → Going qs old₀ page₀ n₀ (putMid at (at + recordSize - at) old ys) (o .page) (n - 1) (at + recordSize)
+      → o ≡ turnOf page (take (at + lineSize - at) (drop at qs))
+      → ys ≡ putTo (lineOf (o .answer)) (midOf at (at + lineSize - at) old)
+      → Going qs old₀ page₀ n₀ (putMid at (at + lineSize - at) old ys) (o .page) (n - 1) (at + lineSize)
   going o ys more turned written =
-      let next : ℕ = at + recordSize in
+      let next : ℕ = at + lineSize in
       let place : List ℕ = midOf at (next - at) old in
       let new : List ℕ = putMid at (next - at) old ys in
-      let left : List (List ℕ) = cut recordSize (n - 1) (drop next qs) in
-      let width : next - at ≡ recordSize = omega arith in
+      let left : List (List ℕ) = cut lineSize (n - 1) (drop next qs) in
+      let width : next - at ≡ lineSize = omega arith in
       let one : n ≡ suc (n - 1) = omega arith in
-      let o-is : o ≡ turnOf page (take recordSize (drop at qs)) =
+      let o-is : o ≡ turnOf page (take lineSize (drop at qs)) =
       turned ∙ ap (λ (w : ℕ). turnOf page (take w (drop at qs))) width in
-      let mid : length place ≡ recordSize = mid-len at next old (omega arith) ∙ width in
+      let mid : length place ≡ lineSize = mid-len at next old (omega arith) ∙ width in
       let ys-is : ys ≡ lineOf (o .answer) = written ∙ put-whole (lineOf (o .answer)) place mid in
-      let wide : length ys ≡ recordSize = ap length ys-is ∙ length-line (o .answer) in
+      let wide : length ys ≡ lineSize = ap length ys-is ∙ length-line (o .answer) in
       let kept : length new ≡ length old = same-len-mid at (next - at) old ys (wide ∙ sym mid) in
-      let whole : length qs ≡ next + recordSize * (n - 1) = omega arith in
+      let whole : length qs ≡ next + lineSize * (n - 1) = omega arith in
       let rest : List ℕ = linesOf (o .page) left in
-      let lines : linesOf page (cut recordSize n (drop at qs)) ≡ ys ++ rest =
-      ap (λ (m : ℕ). linesOf page (cut recordSize m (drop at qs))) one
-      ∙ lines-turn recordSize qs at (n - 1) page
+      let lines : linesOf page (cut lineSize n (drop at qs)) ≡ ys ++ rest =
+      ap (λ (m : ℕ). linesOf page (cut lineSize m (drop at qs))) one
+      ∙ lines-turn lineSize qs at (n - 1) page
       ∙ ap (λ (p : Outcome). lineOf (p .answer) ++ linesOf (p .page) left) (sym o-is)
       ∙ ap (λ (z : List ℕ). z ++ rest) (sym ys-is) in
       let put : take at old ++ (ys ++ rest) ++ drop (length qs) old ≡ take next new ++ rest ++ drop (length qs) new =
-      rw whole (put-turn old ys rest at recordSize (recordSize * (n - 1)) (omega arith) wide) in
+      rw whole (put-turn old ys rest at lineSize (lineSize * (n - 1)) (omega arith) wide) in
       record {
         ahead = omega arith;
         room = omega arith;
         long = omega arith;
         ends =
             g .ends
-            ∙ ap (λ (m : ℕ). pageAfter page (cut recordSize m (drop at qs))) one
-            ∙ page-turn recordSize qs at (n - 1) page
+            ∙ ap (λ (m : ℕ). pageAfter page (cut lineSize m (drop at qs))) one
+            ∙ page-turn lineSize qs at (n - 1) page
             ∙ ap (λ (p : Outcome). pageAfter (p .page) left) (sym o-is);
         says = g .says ∙ ap (λ (z : List ℕ). take at old ++ z ++ drop (length qs) old) lines ∙ put;
       }
 
   -- at the end the page is the last one, and the buffer holds all the answers
-  pub page-gone : n ≡ 0 → pageAfter page₀ (cut recordSize n₀ qs) ≡ page
-  page-gone e = g .ends ∙ ap (λ (m : ℕ). pageAfter page (cut recordSize m (drop at qs))) e
+  pub page-gone : n ≡ 0 → pageAfter page₀ (cut lineSize n₀ qs) ≡ page
+  page-gone e = g .ends ∙ ap (λ (m : ℕ). pageAfter page (cut lineSize m (drop at qs))) e
 
-  pub lines-gone : n ≡ 0 → linesOf page₀ (cut recordSize n₀ qs) ++ drop (length qs) old₀ ≡ old
+  pub lines-gone : n ≡ 0 → linesOf page₀ (cut lineSize n₀ qs) ++ drop (length qs) old₀ ≡ old
   lines-gone e =
       let f : length qs ≡ at = omega arith in
       g .says
-      ∙ ap (λ (m : ℕ). take at old ++ linesOf page (cut recordSize m (drop at qs)) ++ drop (length qs) old) e
+      ∙ ap (λ (m : ℕ). take at old ++ linesOf page (cut lineSize m (drop at qs)) ++ drop (length qs) old) e
       ∙ rw (append-nil, f) (take-append-drop at old)

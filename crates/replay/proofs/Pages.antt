@@ -7,15 +7,14 @@ use native.Mathlib.Omega.{arith}
 use native.Mathlib.Nat.{mul-zero, mul-suc}
 use lib.ListN.{length, take, drop, getD}
 use lib.Seq.{take-all, take-suc, drop-drop}
-use Rattle.kinds.specs.Limits.{recordSize}
+use Rattle.kinds.specs.Limits.{lineSize}
 use Rattle.page_record.specs.declared.Page.{Page}
-use Rattle.steps.specs.declared.Refusal.{Refusal}
-use Rattle.steps.specs.declared.Request.{Request}
+use Rattle.requests.specs.declared.{Refusal.Refusal, Request.Request}
 use Rattle.lock.specs.Step.{refusedBy, stepOf}
 use Rattle.wire.specs.declared.Reading.{Reading}
 use Rattle.wire.specs.Requests.{readOf}
 use Rattle.replay.specs.Turns.{onReading, turnOf}
-use Rattle.replay.specs.Run.{cut, requestsOf, pageAfter, recordAt, pageAt}
+use Rattle.replay.specs.Run.{cut, requestsOf, pageAfter, lineAt, pageAt}
 
 -- ---- one request
 -- what the reader accepts is answered by a step, and what it refuses is refused for its reason
@@ -40,11 +39,11 @@ cut-at w (suc n) (suc k) l h =
     let e : w * suc k ≡ w + w * k = simp mul-suc (omega arith) in
     cut-at w n k (drop w l) (omega arith) ∙ rw (drop-drop, e)
 
-pub length-requests : (l : List ℕ) → length (requestsOf l) ≡ length l / recordSize
-length-requests l = length-cut recordSize (length l / recordSize) l
+pub length-requests : (l : List ℕ) → length (requestsOf l) ≡ length l / lineSize
+length-requests l = length-cut lineSize (length l / lineSize) l
 
-pub request-at : (l : List ℕ) (k : ℕ) → k < length l / recordSize → getD (requestsOf l) k [] ≡ recordAt k l
-request-at l k h = cut-at recordSize (length l / recordSize) k l h
+pub request-at : (l : List ℕ) (k : ℕ) → k < length l / lineSize → getD (requestsOf l) k [] ≡ lineAt k l
+request-at l k h = cut-at lineSize (length l / lineSize) k l h
 
 -- ---- the pages
 pub page-append : (page : Page) (before after : List (List ℕ))
@@ -59,8 +58,8 @@ page-last page before q = page-append page before (q ∷ [])
 
 module _ (page : Page) (requests : List ℕ) where
   -- each request leaves its page to the next
-  pub page-next : (k : ℕ) → k < length requests / recordSize
-      → pageAt (suc k) page requests ≡ turnOf (pageAt k page requests) (recordAt k requests) .page
+  pub page-next : (k : ℕ) → k < length requests / lineSize
+      → pageAt (suc k) page requests ≡ turnOf (pageAt k page requests) (lineAt k requests) .page
   page-next k h =
       let qs = requestsOf requests in
       let in-range : k < length qs = rw length-requests h in
@@ -69,7 +68,7 @@ module _ (page : Page) (requests : List ℕ) where
       ∙ ap (λ (q : List ℕ). turnOf (pageAt k page requests) q .page) (request-at requests k h)
 
   -- all of them leave the page at the end
-  pub page-all : pageAt (length requests / recordSize) page requests ≡ pageAfter page (requestsOf requests)
+  pub page-all : pageAt (length requests / lineSize) page requests ≡ pageAfter page (requestsOf requests)
   page-all =
-      let h : length (requestsOf requests) ≤ length requests / recordSize = rw length-requests (omega arith) in
-      ap (pageAfter page) (take-all (length requests / recordSize) (requestsOf requests) h)
+      let h : length (requestsOf requests) ≤ length requests / lineSize = rw length-requests (omega arith) in
+      ap (pageAfter page) (take-all (length requests / lineSize) (requestsOf requests) h)

@@ -1,30 +1,29 @@
--- What the program writes: the lines of a run from a fresh page of value 0, or one record where the input is refused as a
--- whole; it lies within the buffer, and the bytes past it stay. In order: what each return of `reply` needs, one record, the
+-- What the program writes: the lines of a run from a fresh page of value 0, or one line where the input is refused as a
+-- whole; it lies within the buffer, and the bytes past it stay. In order: what each return of `reply` needs, one line, the
 -- buffer, what is written out. Assumes nothing.
 use Prim.Native.Nat.{ℕ, _<_, _≤_}
 use mathlib.Core.Path.{_≡_, refl, ap, _∙_, sym}
 use mathlib.Core.Bool.{Bool, true, false, cond}
 use mathlib.Core.List.{List, [], _∷_, _++_}
 use native.Mathlib.Omega.{arith}
-use borrow.Author.Tests.{lt-ltb, le-ltb, lt-leb, le-leb, leb-true, leb-false}
 use types.Run.{OneOf, miss}
 use denote.Enum.Declared.{tagOf}
+use borrow.Author.Tests.{lt-ltb, le-ltb, lt-leb, le-leb, leb-true, leb-false}
 use lib.Dec.{ltb, leb}
 use lib.ListN.{length, drop, length-append, length-drop}
 use lib.Seq.{drop-at, take-at}
-use Rattle.kinds.specs.Limits.{recordSize}
+use Rattle.kinds.specs.Limits.{lineSize}
 use Rattle.page_record.specs.declared.Page.{Page}
 use Rattle.page_record.specs.Pages.{freshPage}
-use Rattle.steps.specs.declared.Refusal.{Refusal}
-use Rattle.steps.specs.declared.Answer.{Answer}
-use Rattle.steps.specs.declared.Verdict.{Verdict}
-use Rattle.steps.proofs.Answer as A
+use Rattle.requests.specs.declared.{Refusal.Refusal, Answer.Answer, Verdict.Verdict}
+use Rattle.requests.proofs.Answer as A
 use Rattle.lock.specs.declared.Outcome.{Outcome}
 use Rattle.wire.specs.Answers.{lineOf}
 use Rattle.wire.proofs.Lines.{length-line}
 use Rattle.wire.proofs.Buffers.{put-fits, put-short}
 use Rattle.replay.specs.Run.{requestsOf, linesOf, runVerdict, ends, ranOf, answersOf}
-use Rattle.replay.specs.Reply.{longest, tooLong, inputVerdict, refusalLength, refusalBytes, lengthFor, bytesFor, replyLength, replyBytes, written}
+use Rattle.replay.specs.Reply.{longest, tooLong, inputVerdict, refusalLength, refusalBytes, lengthFor, bytesFor}
+use Rattle.replay.specs.Reply.{replyLength, replyBytes, written}
 use Rattle.replay.proofs.Judged.{verdict-accepted, verdict-refused}
 use Rattle.replay.proofs.Lines.{requests-fit, lines-fit, length-answers, answers-are, past-lines}
 use Rattle.replay.proofs.Whole.{accepted-has, refused-untouched}
@@ -85,13 +84,13 @@ module _ (kept out : List ℕ) (total : ℕ) where
         let t = replies (Verdict.Failed why) (judged-so ∙ v) in
         (e ∙ ap refusalLength same ∙ t .0, f ∙ ap (refusalBytes why) same ∙ t .1)
 
--- ---- one record for the whole input
+-- ---- one line for the whole input
 module _ (why : Refusal) (out : List ℕ) where
-  refusal-fits : recordSize ≤ length out
-      → (refusalLength out ≡ recordSize) × (refusalBytes why out ≡ lineOf (Answer.Refused why) ++ drop recordSize out)
+  refusal-fits : lineSize ≤ length out
+      → (refusalLength out ≡ lineSize) × (refusalBytes why out ≡ lineOf (Answer.Refused why) ++ drop lineSize out)
   refusal-fits h = (simp (le-leb _ _ h), put-fits (lineOf (Answer.Refused why)) out h .1)
 
-  refusal-short : length out < recordSize → (refusalLength out ≡ 0) × (refusalBytes why out ≡ out)
+  refusal-short : length out < lineSize → (refusalLength out ≡ 0) × (refusalBytes why out ≡ out)
   refusal-short h = (simp (lt-leb _ _ h), put-short (lineOf (Answer.Refused why)) out h .1)
 
 -- ---- the buffer
@@ -101,10 +100,10 @@ pub record Within (n : ℕ) (bytes out : List ℕ) : Type 0 where
   pub long : length bytes ≡ length out
   pub past : drop n bytes ≡ drop n out
 
-refusal-within : (why : Refusal) (out : List ℕ) (t : Bool) → leb recordSize (length out) ≡ t
+refusal-within : (why : Refusal) (out : List ℕ) (t : Bool) → leb lineSize (length out) ≡ t
     → Within (refusalLength out) (refusalBytes why out) out
 refusal-within why out true e =
-    let h = leb-true recordSize (length out) e in
+    let h = leb-true lineSize (length out) e in
     let f = refusal-fits why out h in
     let wide = length-line (Answer.Refused why) in
     let long : length (refusalBytes why out) ≡ length out =
@@ -112,10 +111,10 @@ refusal-within why out true e =
     record {
       fits = omega arith;
       long = long;
-      past = rw (f .0, f .1) (drop-at (lineOf (Answer.Refused why)) (drop recordSize out) recordSize wide);
+      past = rw (f .0, f .1) (drop-at (lineOf (Answer.Refused why)) (drop lineSize out) lineSize wide);
     }
 refusal-within why out false e =
-    let f = refusal-short why out (leb-false recordSize (length out) e) in
+    let f = refusal-short why out (leb-false lineSize (length out) e) in
     record { fits = omega arith; long = ap length (f .1); past = ap (drop (refusalLength out)) (f .1) }
 
 -- an input that passes is run
@@ -136,18 +135,18 @@ module _ (kept out : List ℕ) (total : ℕ) where
       let h = requests-fit (freshPage 0) kept (length out) (verdict-accepted (freshPage 0) kept out a) in
       let l = length-answers (freshPage 0) kept out in
       record { fits = omega arith; long = l; past = past-lines (freshPage 0) kept out a }
-  within (Verdict.Failed why) e = refusal-within why out (leb recordSize (length out)) refl
+  within (Verdict.Failed why) e = refusal-within why out (leb lineSize (length out)) refl
 
   pub reply-within : Within (replyLength kept total out) (replyBytes kept total out) out
   unfolding replyLength replyBytes
   reply-within = within (inputVerdict kept total (length out)) refl
 
   -- under sixteen bytes nothing fits, and the buffer stays as it was
-  small : length out < recordSize → (v : Verdict) → inputVerdict kept total (length out) ≡ v → lengthFor kept out v ≡ 0
+  small : length out < lineSize → (v : Verdict) → inputVerdict kept total (length out) ≡ v → lengthFor kept out v ≡ 0
   small h Verdict.Passed e = let a = accepted-has (freshPage 0) kept out (input-runs e) in omega arith
   small h (Verdict.Failed why) e = refusal-short why out h .0
 
-  pub reply-small : length out < recordSize → (replyLength kept total out ≡ 0) × (replyBytes kept total out ≡ out)
+  pub reply-small : length out < lineSize → (replyLength kept total out ≡ 0) × (replyBytes kept total out ≡ out)
   unfolding replyLength
   reply-small h =
       let none = small h (inputVerdict kept total (length out)) refl in
@@ -166,20 +165,20 @@ module _ (kept out : List ℕ) (total : ℕ) where
       let fit = lines-fit (freshPage 0) kept (length out) v in
       rw (← t .0, ← t .1, answers-are (freshPage 0) kept out a) (take-at lines (drop (length kept) out) (length kept) fit)
 
-  -- one record for an input that is refused as a whole
-  writes-one : (why : Refusal) → inputVerdict kept total (length out) ≡ Verdict.Failed why → recordSize ≤ length out
+  -- one line for an input that is refused as a whole
+  writes-one : (why : Refusal) → inputVerdict kept total (length out) ≡ Verdict.Failed why → lineSize ≤ length out
       → written kept total out ≡ lineOf (Answer.Refused why)
   writes-one why e h =
       let t = replies kept out total (Verdict.Failed why) e in
       let f = refusal-fits why out h in
       let answer = Answer.Refused why in
-      rw (← t .0, ← t .1, f .0, f .1) (take-at (lineOf answer) (drop recordSize out) recordSize (length-line answer))
+      rw (← t .0, ← t .1, f .0, f .1) (take-at (lineOf answer) (drop lineSize out) lineSize (length-line answer))
 
   pub writes-refusal : (why : Refusal) → total ≤ longest → ranOf (freshPage 0) kept out .answer ≡ Answer.Refused why
-      → recordSize ≤ length out → written kept total out ≡ lineOf (Answer.Refused why)
+      → lineSize ≤ length out → written kept total out ≡ lineOf (Answer.Refused why)
   writes-refusal why h e = writes-one why (input-kept kept out total h ∙ verdict-refused (freshPage 0) kept out why e)
 
   -- for an input that is longer than a run it is 12 or 13, by its length alone
-  pub writes-length : longest < total → recordSize ≤ length out
+  pub writes-length : longest < total → lineSize ≤ length out
       → written kept total out ≡ lineOf (Answer.Refused (tooLong total))
   writes-length h = writes-one (tooLong total) (input-long kept out total h)

@@ -1,3 +1,4 @@
 pub mod Turns
 pub mod Run
 pub mod Reply
+pub mod Applies

@@ -5,13 +5,11 @@ use mathlib.Core.Bool.{Bool}
 use mathlib.Core.List.{List, [], _∷_, _++_}
 use lib.Dec.{eqb, leb}
 use lib.ListN.{length, take, drop}
-use Rattle.kinds.specs.Limits.{recordSize, mostRequests}
+use Rattle.kinds.specs.Limits.{lineSize, mostRequests}
 use Rattle.page_record.specs.declared.Page.{Page}
-use Rattle.page_record.specs.Rules.{soundOf}
-use Rattle.steps.specs.declared.Refusal.{Refusal}
-use Rattle.steps.specs.declared.Answer.{Answer}
-use Rattle.steps.specs.declared.Verdict.{Verdict}
-use Rattle.steps.specs.Premises.{verdict}
+use Rattle.soundness.specs.Soundness.{soundOf}
+use Rattle.requests.specs.declared.{Refusal.Refusal, Answer.Answer, Verdict.Verdict}
+use Rattle.requests.specs.Premises.{verdict}
 use Rattle.lock.specs.declared.Outcome.{Outcome}
 use Rattle.lock.specs.Step.{refusedBy}
 use Rattle.wire.specs.Answers.{lineOf}
@@ -25,7 +23,7 @@ cut w (suc n) l = take w l ∷ cut w n (drop w l)
 
 -- the requests, sixteen bytes each
 abbrev pub requestsOf : List ℕ → List (List ℕ)
-requestsOf l = cut recordSize (length l / recordSize) l
+requestsOf l = cut lineSize (length l / lineSize) l
 
 -- ---- one after the other
 -- the page that the requests leave
@@ -39,9 +37,9 @@ linesOf page [] = []
 linesOf page (q ∷ qs) = lineOf (turnOf page q .answer) ++ linesOf (turnOf page q .page) qs
 
 -- ---- the k-th of them, counted from 0
--- the k-th record of sixteen bytes: a request, or an answer line
-abbrev pub recordAt : ℕ → List ℕ → List ℕ
-recordAt k l = take recordSize (drop (recordSize * k) l)
+-- the k-th line of sixteen bytes, of requests or of answers
+abbrev pub lineAt : ℕ → List ℕ → List ℕ
+lineAt k l = take lineSize (drop (lineSize * k) l)
 
 -- the page that the first k requests leave
 abbrev pub pageAt : ℕ → Page → List ℕ → Page
@@ -52,9 +50,9 @@ pageAt k page requests = pageAfter page (take k (requestsOf requests))
 abbrev pub wholePremises : Bool → ℕ → ℕ → List (Refusal × Bool)
 wholePremises sound bytes space =
     (Refusal.Unsound, sound)
-    ∷ (Refusal.NotWhole, eqb (bytes % recordSize) 0)
-    ∷ (Refusal.TooMany, leb (bytes / recordSize) mostRequests)
-    ∷ (Refusal.NoRoom, leb (recordSize * (bytes / recordSize)) space)
+    ∷ (Refusal.NotWhole, eqb (bytes % lineSize) 0)
+    ∷ (Refusal.TooMany, leb (bytes / lineSize) mostRequests)
+    ∷ (Refusal.NoRoom, leb (lineSize * (bytes / lineSize)) space)
     ∷ []
 
 abbrev pub runPremises : Page → List ℕ → List ℕ → List (Refusal × Bool)

@@ -3,17 +3,17 @@ ghost use mathlib.Core.Path.{_≡_};
 ghost use Rattle.replay.specs.Reply.{tooLong, refusalLength, refusalBytes, replyLength, replyBytes};
 ghost use Rattle.replay.specs.Run.{runVerdict, ranOf, answersOf};
 ghost use Rattle.replay.specs.Turns.{turnOf};
+use kinds::LINE;
 use kinds::MOST_REQUESTS;
-use kinds::RECORD;
 use lock::Outcome;
 use page_record::Page;
-use steps::Answer;
-use steps::Refusal;
-use steps::Verdict;
+use requests::Answer;
+use requests::Refusal;
+use requests::Verdict;
 use wire::Reading;
 
 // The most bytes that a run takes.
-pub const LONGEST: usize = RECORD * MOST_REQUESTS;
+pub const LONGEST: usize = LINE * MOST_REQUESTS;
 
 // One request: what its bytes ask for, or why they can't be read.
 fn turn(page: Page, bytes: &[u8]) -> Outcome
@@ -32,12 +32,12 @@ fn turn(page: Page, bytes: &[u8]) -> Outcome
 fn judge_run(page: Page, bytes: usize, space: usize) -> Verdict
     ensures { λ r. ⌜ r ≡ runVerdict page bytes space ⌝ }
 {
-    let requests = bytes / RECORD;
-    let needed = RECORD * requests;
-    if !page_record::is_sound(page) {
+    let requests = bytes / LINE;
+    let needed = LINE * requests;
+    if !soundness::is_sound(page) {
         return Verdict::Failed(Refusal::Unsound);
     }
-    if bytes % RECORD != 0 {
+    if bytes % LINE != 0 {
         return Verdict::Failed(Refusal::NotWhole);
     }
     if MOST_REQUESTS < requests {
@@ -61,10 +61,10 @@ pub fn run(page: Page, requests: &[u8], answers: &mut [u8]) -> Outcome
         return Outcome { answer, page };
     }
     let mut current = page;
-    let mut left = requests.len() / RECORD;
+    let mut left = requests.len() / LINE;
     let mut at: usize = 0;
     while 0 < left {
-        let next = at + RECORD;
+        let next = at + LINE;
         let turned = turn(current, &requests[at..next]);
         let answer = turned.answer;
         wire::write_answer(answer, &mut answers[at..next]);
@@ -83,23 +83,23 @@ pub fn run(page: Page, requests: &[u8], answers: &mut [u8]) -> Outcome
 fn too_long(total: usize) -> Refusal
     ensures { λ r. ⌜ r ≡ tooLong total ⌝ }
 {
-    if total % RECORD != 0 {
+    if total % LINE != 0 {
         return Refusal::NotWhole;
     }
     Refusal::TooMany
 }
 
-// One answer record at the start of `out`; its length, or 0 where it doesn't fit.
+// One answer line at the start of `out`; its length, or 0 where it doesn't fit.
 fn refuse(why: Refusal, out: &mut [u8]) -> usize
     ensures length { λ r. ⌜ r ≡ refusalLength (now (out .entry)) ⌝ }
     ensures bytes { λ _. ⌜ now (out .exit) ≡ refusalBytes why (now (out .entry)) ⌝ }
 {
-    if out.len() < RECORD {
+    if out.len() < LINE {
         return 0;
     }
     let answer = Answer::Refused(why);
     wire::write_answer(answer, out);
-    RECORD
+    LINE
 }
 
 // What the program writes for an input of `total` bytes, of which `kept` are the first, up to as many as a run takes: it

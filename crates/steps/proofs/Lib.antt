@@ -1,5 +1,1 @@
-pub mod Holders
-pub mod Numbers
-pub mod Reasons
-pub mod Tests
 pub mod Verdicts

@@ -1,40 +1,17 @@
--- What a list of premises comes to, by one induction each: where none fails, all hold (`passed`); two lists are judged one
--- after the other (`verdict-append`). And what that makes of a step: a refusal changes nothing (`refused-keeps`, and
--- `decide-keeps` for every step of the table). Assumes nothing.
+-- What a verdict makes of a step: a refusal changes nothing (`refused-keeps`, and `decide-keeps` for every step of the table).
+-- Assumes nothing.
 use Prim.Native.Nat.{ℕ, zero, suc}
 use mathlib.Core.Bool.{Bool, true, false}
-use mathlib.Core.List.{List, [], _∷_, _++_}
-use mathlib.Core.Path.{_≡_, refl, ap, subst}
-use native.Mathlib.Omega.{arith}
+use mathlib.Core.List.{List, [], _∷_}
+use mathlib.Core.Path.{_≡_, ap, subst}
 use lib.Dec.{T, when}
 use lib.ListN.{getD}
 use Rattle.readers.specs.declared.Found.{Found}
 use Rattle.page_record.specs.declared.Head.{Head}
-use Rattle.steps.specs.declared.Refusal.{Refusal}
-use Rattle.steps.specs.declared.Answer.{Answer}
-use Rattle.steps.specs.declared.Verdict.{Verdict}
-use Rattle.steps.specs.declared.Request.{Request}
-use Rattle.steps.specs.Premises.{Step, verdict, Passes, refused, settled, decided}
+use Rattle.requests.specs.declared.{Refusal.Refusal, Answer.Answer, Verdict.Verdict, Request.Request}
+use Rattle.requests.specs.Premises.{verdict}
+use Rattle.heads.specs.Decisions.{Step, refused, settled, decided}
 use Rattle.steps.specs.Decide.{decideOf, stepAt, steps, unknown}
-
--- ---- all hold
-pub never : (why : Refusal) → Verdict.Failed why ≡ Verdict.Passed → ⊥
-never why e = let z : _≡_ {A = ℕ} 0 1 = cc in omega arith
-
-pub passed : (cs : List (Refusal × Bool)) → verdict cs ≡ Verdict.Passed → Passes cs
-passed [] e = tt
-passed ((why, true) ∷ cs) e = (tt, passed cs e)
-passed ((why, false) ∷ cs) e = absurd (never why e)
-
--- ---- one list after another
-abbrev pub andThen : Verdict → Verdict → Verdict
-andThen Verdict.Passed v = v
-andThen (Verdict.Failed why) v = Verdict.Failed why
-
-pub verdict-append : (xs ys : List (Refusal × Bool)) → verdict (xs ++ ys) ≡ andThen (verdict xs) (verdict ys)
-verdict-append [] ys = refl
-verdict-append ((why, true) ∷ xs) ys = verdict-append xs ys
-verdict-append ((why, false) ∷ xs) ys = refl
 
 -- ---- a step
 -- where a step has no refusal for its own answer, what is answered with one is refused by a premise, and changes nothing
@@ -58,14 +35,14 @@ abbrev AllPlain : List Step → Type 0
 AllPlain [] = Unit {0}
 AllPlain (st ∷ sts) = when (plain (st .answer)) (AllPlain sts)
 
-both : (t : Bool) {X : Type 0} → when t X → T t × X
-both true x = (tt, x)
-both false x = absurd x
+when-parts : (t : Bool) {X : Type 0} → when t X → T t × X
+when-parts true x = (tt, x)
+when-parts false x = absurd x
 
 plain-at : (sts : List Step) (n : ℕ) (d : Step) → AllPlain sts → T (plain (d .answer)) → T (plain (getD sts n d .answer))
 plain-at [] n d every t = t
-plain-at (st ∷ sts) zero d every t = both (plain (st .answer)) every .0
-plain-at (st ∷ sts) (suc n) d every t = plain-at sts n d (both (plain (st .answer)) every .1) t
+plain-at (st ∷ sts) zero d every t = when-parts (plain (st .answer)) every .0
+plain-at (st ∷ sts) (suc n) d every t = plain-at sts n d (when-parts (plain (st .answer)) every .1) t
 
 -- what is refused changes nothing, and carries no value
 pub decide-keeps : (h : Head) (q : Request) (found : Found) (full : Bool) (why : Refusal)

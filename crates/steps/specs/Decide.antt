@@ -5,13 +5,16 @@ use lib.ListN.{getD}
 use Rattle.kinds.specs.declared.Phase.{Phase}
 use Rattle.readers.specs.declared.Found.{Found}
 use Rattle.page_record.specs.declared.Head.{Head}
-use Rattle.steps.specs.declared.Refusal.{Refusal}
-use Rattle.steps.specs.declared.Edit.{Edit}
+use Rattle.requests.specs.declared.{Refusal.Refusal, Request.Request}
+use Rattle.heads.specs.declared.{Edit.Edit, Decision.Decision}
+use Rattle.heads.specs.Decisions.{Step, decided, accepts, reader}
+use Rattle.editing.specs.Steps.{takeWriteback, releaseWriteback, bucketlessClaim, sharedToClaim, claimToPending}
+use Rattle.editing.specs.Steps.{takeExcLockFinishWriteback, takeExcLockCheckRefCount, withdrawTakeExcLockFinish}
+use Rattle.editing.specs.Steps.{depositDowngradeExcLock, depositDowngradeExcLockToClaim, excIncCount}
+use Rattle.reading.specs.Steps.{withdrawAlloc, withdrawAllocNoRefcount, loadingIncCount, obtainLoading}
+use Rattle.reading.specs.Steps.{obtainLoadingNoRefcount, depositLoadingToShared, depositLoadingToDone, sharedIncCount}
+use Rattle.reading.specs.Steps.{sharedDecCount, sharedCheckExc, sharedCheckLoading}
 use Rattle.steps.specs.declared.Sought.{Sought}
-use Rattle.steps.specs.declared.Request.{Request}
-use Rattle.steps.specs.declared.Decision.{Decision}
-use Rattle.steps.specs.Premises.{Step, decided}
-use Rattle.steps.specs.Steps.{accepts, reader, takeWriteback, releaseWriteback, bucketlessClaim, sharedToClaim, claimToPending, takeExcLockFinishWriteback, takeExcLockCheckRefCount, withdrawTakeExcLockFinish, depositDowngradeExcLock, depositDowngradeExcLockToClaim, withdrawAlloc, withdrawAllocNoRefcount, loadingIncCount, obtainLoading, obtainLoadingNoRefcount, depositLoadingToShared, depositLoadingToDone, excIncCount, sharedIncCount, sharedDecCount, sharedCheckExc, sharedCheckLoading}
 
 -- a number that names no step is refused
 abbrev pub unknown : Head → Step

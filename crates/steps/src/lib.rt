@@ -1,136 +1,43 @@
-// The 24 steps on a page's head. A request is judged by its fields alone (`judge`: numbers 2 to 4); then the reader that it
-// looks for is sought in the list (`sought_by`), and the step is decided (`decide`): its answer, the head that it leaves, and
-// what it does to the list. No function here sees the list, and each takes any value of its types.
+// The 24 steps on a page's head (RULES 3.2). The reader that a request looks for is sought in the list (`sought_by`), and the step
+// is decided (`decide`): its answer, the head that it leaves, and what it does to the list. No function here sees the list, and
+// each takes any value of its types.
 ghost use mathlib.Core.Path.{_≡_};
 ghost use Rattle.steps.specs.Decide.{decideOf, soughtOf};
-ghost use Rattle.steps.specs.Requests.{judged};
-
-mod answers;
-mod claim;
-mod decisions;
-mod exclusive;
-mod loading;
-mod requests;
-mod setters;
-mod shared;
-mod writeback;
-
-pub use answers::answer_number;
-pub use answers::answer_value;
-pub use answers::carries;
-pub use answers::refusal_number;
-use claim::bucketless_claim;
-use claim::claim_to_pending;
-use claim::shared_to_claim;
-use decisions::refuse;
-use exclusive::deposit_downgrade_exc_lock;
-use exclusive::deposit_downgrade_exc_lock_to_claim;
-use exclusive::exc_inc_count;
-use exclusive::take_exc_lock_check_ref_count;
-use exclusive::take_exc_lock_finish_writeback;
-use exclusive::withdraw_take_exc_lock_finish;
-use kinds::Bucket;
+use editing::bucketless_claim;
+use editing::claim_to_pending;
+use editing::deposit_downgrade_exc_lock;
+use editing::deposit_downgrade_exc_lock_to_claim;
+use editing::exc_inc_count;
+use editing::release_writeback;
+use editing::shared_to_claim;
+use editing::take_exc_lock_check_ref_count;
+use editing::take_exc_lock_finish_writeback;
+use editing::take_writeback;
+use editing::withdraw_take_exc_lock_finish;
+use heads::Decision;
+use heads::refuse;
 use kinds::Phase;
 use kinds::Reader;
-use loading::deposit_loading_to_done;
-use loading::deposit_loading_to_shared;
-use loading::loading_inc_count;
-use loading::obtain_loading;
-use loading::obtain_loading_no_refcount;
-use loading::withdraw_alloc;
-use loading::withdraw_alloc_no_refcount;
 use page_record::Head;
 use readers::Found;
-use requests::bucket_fits;
-use requests::fields_fit;
-pub use requests::is_step;
-pub use requests::takes_bucket;
-pub use requests::takes_clean;
-pub use requests::takes_value;
-use shared::shared_check_exc;
-use shared::shared_check_loading;
-use shared::shared_dec_count_obtained;
-use shared::shared_dec_count_pending;
-use shared::shared_dec_count_pending2;
-use shared::shared_inc_count;
-use writeback::release_writeback;
-use writeback::take_writeback;
-
-// A request's raw fields, any of which may be wrong.
-pub struct Request {
-    pub step: u8,
-    pub bucket: Bucket,
-    pub clean: u8,
-    pub value: u64,
-}
-
-// Why a request is refused: document 01's numbers 1 to 14, in their order.
-pub enum Refusal {
-    Unsound,
-    UnknownStep,
-    BadField,
-    BadBucket,
-    WrongFlag,
-    NoHolder,
-    WrongBucket,
-    WrongVisited,
-    OtherCount,
-    AtCeiling,
-    ListFull,
-    NotWhole,
-    TooMany,
-    NoRoom,
-}
-
-// What a request is answered: that it is accepted, and which value is handed out for it if one is, or why it is refused.
-pub enum Answer {
-    Accepted,
-    Withdrew(u64),
-    Refused(Refusal),
-}
-
-// What a list of premises comes to.
-pub enum Verdict {
-    Passed,
-    Failed(Refusal),
-}
-
-// What a step does to the list of readers.
-pub enum Edit {
-    Keep,
-    Push(Reader),
-    Put(usize, Reader),
-    Remove(usize),
-}
+use reading::deposit_loading_to_done;
+use reading::deposit_loading_to_shared;
+use reading::loading_inc_count;
+use reading::obtain_loading;
+use reading::obtain_loading_no_refcount;
+use reading::shared_check_exc;
+use reading::shared_check_loading;
+use reading::shared_dec_count;
+use reading::shared_inc_count;
+use reading::withdraw_alloc;
+use reading::withdraw_alloc_no_refcount;
+use requests::Refusal;
+use requests::Request;
 
 // The reader that a step looks for.
 pub enum Sought {
     Nobody,
     One(Reader),
-}
-
-// What a step decides of a head. An enum may not hold an array, so this is a struct.
-pub struct Decision {
-    pub answer: Answer,
-    pub head: Head,
-    pub edit: Edit,
-}
-
-// Numbers 2, 3 and 4: what is asked of a request whatever the record is.
-pub fn judge(request: Request) -> Verdict
-    ensures { λ r. ⌜ r ≡ judged request ⌝ }
-{
-    let step = request.step;
-    if !is_step(step) {
-        return Verdict::Failed(Refusal::UnknownStep);
-    }
-    if !fields_fit(request) {
-        return Verdict::Failed(Refusal::BadField);
-    }
-    if !bucket_fits(request) {
-        return Verdict::Failed(Refusal::BadBucket);
-    }
-    Verdict::Passed
 }
 
 // The reader that a request looks for: 4 and 22 an Obtained one with the request's value, 20 and 23 a Pending one, 21 and 24
@@ -191,9 +98,9 @@ pub fn decide(head: Head, request: Request, found: Found, full: bool) -> Decisio
         17 => deposit_loading_to_done(head, request),
         18 => exc_inc_count(head, request),
         19 => shared_inc_count(head, request, full),
-        20 => shared_dec_count_pending(head, request, found),
-        21 => shared_dec_count_pending2(head, request, found),
-        22 => shared_dec_count_obtained(head, request, found),
+        20 => shared_dec_count(head, request, found),
+        21 => shared_dec_count(head, request, found),
+        22 => shared_dec_count(head, request, found),
         23 => shared_check_exc(head, request, found),
         24 => shared_check_loading(head, request, found),
         25..=255 => refuse(head, Refusal::UnknownStep),

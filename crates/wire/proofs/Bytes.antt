@@ -2,22 +2,19 @@
 -- reading and writing a number undo each other. Assumes nothing.
 use Prim.Native.Nat.{ℕ, zero, suc, _+_, _*_, _/_, _%_, _^_, _-_, _<_, _≤_}
 use mathlib.Core.Path.{_≡_, refl, sym}
-use mathlib.Core.Bool.{Bool, true, false, _&&_}
+use mathlib.Core.Bool.{true}
 use mathlib.Core.List.{List, [], _∷_, _++_}
 use native.Mathlib.Omega.{arith}
 use native.Mathlib.Numerals.{add-one}
 use native.Mathlib.Nat.{pow-succ'}
 use borrow.Author.Tests.{eqb-true}
 use lib.Dec.{eqb}
-use lib.ListN.{length, take, drop, getD, set, replicate}
+use lib.ListN.{length, take, drop, set, replicate}
 use lib.Seq.{getD-drop, take-suc-set, append-snoc}
-use Rattle.wire.specs.Bytes.{number, lowBytes, blank}
+use Rattle.laws.proofs.Tests.{parts-true}
+use Rattle.wire.specs.Bytes.{Bytes, number, lowBytes, blank}
 
 -- ---- bytes
--- each is below 256; what lies past the end counts as 0
-abbrev pub Bytes : List ℕ → Type 0
-Bytes l = (i : ℕ) → getD l i 0 < 256
-
 pub bytes-take : (n : ℕ) (l : List ℕ) → Bytes l → Bytes (take n l)
 bytes-take zero l b i = omega arith
 bytes-take (suc n) [] b i = omega arith
@@ -27,16 +24,11 @@ bytes-take (suc n) (x ∷ l) b (suc i) = bytes-take n l (λ j. b (suc j)) i
 pub bytes-drop : (n : ℕ) (l : List ℕ) → Bytes l → Bytes (drop n l)
 bytes-drop n l b i = rw getD-drop (b (n + i))
 
--- two tests that both hold
-pub both : (a b : Bool) → (a && b) ≡ true → (a ≡ true) × (b ≡ true)
-both true b e = (refl, e)
-both false b e = absurd (let z : _≡_ {A = ℕ} 0 1 = cc in omega arith)
-
 -- bytes that are all zero are so many zeros
 pub zeros-are : (l : List ℕ) → blank l ≡ true → l ≡ replicate (length l) 0
 zeros-are [] e = refl
 zeros-are (b ∷ bs) e =
-    let t = both (eqb b 0) (blank bs) e in
+    let t = parts-true (eqb b 0) (blank bs) e in
     let z = eqb-true b 0 (t .0) in
     let r = zeros-are bs (t .1) in
     cc

@@ -1,7 +1,7 @@
 pub mod Bytes
-pub mod Records
+pub mod Stores
 pub mod Premises
 pub mod Trips
-pub mod Lowest
+pub mod Least
 pub mod Lines
 pub mod Buffers

@@ -7,18 +7,18 @@ use mathlib.Core.Bool.{Bool, true, false, cond, true≢false}
 use mathlib.Core.List.{List}
 use native.Mathlib.Omega.{arith}
 use lib.ListN.{length, getD}
-use Rattle.kinds.specs.Limits.{recordSize}
-use Rattle.steps.specs.declared.Answer.{Answer}
-use Rattle.steps.specs.Answers.{answerNumber, withdraws, answerValue}
-use Rattle.steps.proofs.Reasons.{reasonAt, reason-told, refusal-above}
+use Rattle.kinds.specs.Limits.{lineSize}
+use Rattle.requests.specs.declared.Answer.{Answer}
+use Rattle.requests.specs.Answers.{answerNumber, withdraws, answerValue}
+use Rattle.requests.proofs.Reasons.{reasonAt, reason-told, refusal-above}
 use Rattle.wire.specs.Answers.{lineOf}
-use Rattle.wire.specs.Bytes.{valueAt, valueLimit, number, part, recordOf}
+use Rattle.wire.specs.Bytes.{valueAt, valueLimit, number, part, lineWith}
 use Rattle.wire.proofs.Bytes.{number-lowBytes}
-use Rattle.wire.proofs.Records.{length-record}
+use Rattle.wire.proofs.Stores.{length-line-with}
 
-pub length-line : (a : Answer) → length (lineOf a) ≡ recordSize
+pub length-line : (a : Answer) → length (lineOf a) ≡ lineSize
 unfolding lineOf
-length-line a = length-record (answerNumber a) (cond (withdraws a) 1 0) 0 (answerValue a)
+length-line a = length-line-with (answerNumber a) (cond (withdraws a) 1 0) 0 (answerValue a)
 
 -- ---- the bytes tell the answer
 marks : (s t : Bool) → _≡_ {A = ℕ} (cond s 1 0) (cond t 1 0) → s ≡ t
@@ -27,18 +27,18 @@ marks true false e = absurd (omega arith)
 marks false true e = absurd (omega arith)
 marks false false e = refl
 
-value-line : (a : Answer) → answerValue a < valueLimit → number (part valueAt recordSize (lineOf a)) ≡ answerValue a
-unfolding lineOf recordOf
+value-line : (a : Answer) → answerValue a < valueLimit → number (part valueAt lineSize (lineOf a)) ≡ answerValue a
+unfolding lineOf lineWith
 value-line a h = number-lowBytes 8 (answerValue a) h
 
 -- two answers with the same bytes have the same number, the same mark and the same value
 pub line-tells : (a b : Answer) → answerValue a < valueLimit → answerValue b < valueLimit → lineOf a ≡ lineOf b
     → (answerNumber a ≡ answerNumber b) × (withdraws a ≡ withdraws b) × (answerValue a ≡ answerValue b)
-unfolding lineOf recordOf
+unfolding lineOf lineWith
 line-tells a b h k e = (
   ap (λ (l : List ℕ). getD l 0 0) e,
   marks (withdraws a) (withdraws b) (ap (λ (l : List ℕ). getD l 1 0) e),
-  sym (value-line a h) ∙ ap (λ (l : List ℕ). number (part valueAt recordSize l)) e ∙ value-line b k,
+  sym (value-line a h) ∙ ap (λ (l : List ℕ). number (part valueAt lineSize l)) e ∙ value-line b k,
 )
 
 -- number, mark and value are all there is to an answer

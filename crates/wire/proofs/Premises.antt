@@ -5,34 +5,28 @@ use mathlib.Core.Path.{_≡_, refl, ap, _∙_, sym}
 use mathlib.Core.Bool.{Bool, true, false, cond, _&&_, and-true}
 use mathlib.Core.List.{List, [], _∷_, _++_}
 use native.Mathlib.Omega.{arith}
-use borrow.Author.Tests.{eq-eqb, ne-eqb}
 use mir.Val.{boolByte}
+use borrow.Author.Tests.{eq-eqb, ne-eqb}
 use lib.Dec.{eqb}
 use lib.ListN.{length}
-use Rattle.kinds.specs.Limits.{recordSize}
-use Rattle.steps.specs.declared.Refusal.{Refusal}
-use Rattle.steps.specs.declared.Answer.{Answer}
-use Rattle.steps.specs.declared.Verdict.{Verdict}
-use Rattle.steps.specs.declared.Request.{Request}
-use Rattle.steps.specs.Answers.{answerNumber, withdraws, answerValue}
-use Rattle.steps.proofs.Verdicts.{andThen, verdict-append}
-use Rattle.steps.specs.Premises.{verdict}
-use Rattle.steps.specs.Requests.{isStep, fieldsFit, bucketFits, formal, judged}
+use Rattle.laws.proofs.Tests.{byte-is}
+use Rattle.kinds.specs.Limits.{lineSize}
+use Rattle.requests.specs.declared.{Refusal.Refusal, Answer.Answer, Verdict.Verdict, Request.Request}
+use Rattle.requests.specs.Answers.{answerNumber, withdraws, answerValue}
+use Rattle.requests.specs.Premises.{verdict}
+use Rattle.requests.specs.Requests.{isStep, fieldsFit, bucketFits, formal, judged}
+use Rattle.requests.proofs.Verdicts.{andThen, verdict-append}
+use Rattle.wire.specs.declared.Reading.{Reading}
 use Rattle.wire.specs.Answers.{lineOf}
 use Rattle.wire.specs.Buffers.{room, answerFor, leaves, putAnswer, putTo}
-use Rattle.wire.specs.Bytes.{zerosAt, valueAt, blank, part, recordOf}
+use Rattle.wire.specs.Bytes.{zerosAt, valueAt, blank, part, lineWith}
 use Rattle.wire.specs.Requests.{bytesOf, fieldsOf, readingOf, readOf, orBadField, wroteAnswer, wroteTo}
-use Rattle.wire.specs.declared.Reading.{Reading}
 
 -- ---- what a verdict tells
 -- a request that is read has passed, and a reading that is refused has failed for that reason
 pub read-passed : (p q : Request) (v : Verdict) → readingOf p v ≡ Reading.Request q → (v ≡ Verdict.Passed) × (p ≡ q)
 read-passed p q Verdict.Passed e = (refl, cc)
 read-passed p q (Verdict.Failed why) e = absurd (let z : _≡_ {A = ℕ} 0 1 = cc in omega arith)
-
-pub read-failed : (q : Request) (v : Verdict) (why : Refusal) → readingOf q v ≡ Reading.Refused why → v ≡ Verdict.Failed why
-read-failed q Verdict.Passed why e = absurd (let z : _≡_ {A = ℕ} 0 1 = cc in omega arith)
-read-failed q (Verdict.Failed other) why e = cc
 
 -- the same of an answer
 pub answer-passed : (v : Verdict) → answerFor v ≡ Answer.Accepted → v ≡ Verdict.Passed
@@ -84,26 +78,26 @@ module _ (l : List ℕ) where
       let judges = beside (isStep (q .step)) (fieldsFit q) zeros (bucketFits q) in
       readingOf q (cond long judges (Verdict.Failed Refusal.NotWhole))
 
-  found : (long zeros : Bool) → eqb (length l) recordSize ≡ long → blank (part zerosAt valueAt l) ≡ zeros
+  found : (long zeros : Bool) → eqb (length l) lineSize ≡ long → blank (part zerosAt valueAt l) ≡ zeros
       → readOf l ≡ reads long zeros
   unfolding readOf
   found long zeros h z = ap (λ (t : Bool). reads t (blank (part zerosAt valueAt l))) h ∙ ap (reads long) z
 
-  pub read-ragged : (length l ≡ recordSize → ⊥) → Reading.Refused Refusal.NotWhole ≡ readOf l
-  read-ragged h = sym (found false (blank (part zerosAt valueAt l)) (ne-eqb (length l) recordSize h) refl)
+  pub read-ragged : (length l ≡ lineSize → ⊥) → Reading.Refused Refusal.NotWhole ≡ readOf l
+  read-ragged h = sym (found false (blank (part zerosAt valueAt l)) (ne-eqb (length l) lineSize h) refl)
 
-  pub read-fields : length l ≡ recordSize → blank (part zerosAt valueAt l) ≡ true → readingOf q (judged q) ≡ readOf l
+  pub read-fields : length l ≡ lineSize → blank (part zerosAt valueAt l) ≡ true → readingOf q (judged q) ≡ readOf l
   unfolding judged
   read-fields h z =
       ap (λ (t : Bool). readingOf q (alone (isStep (q .step)) t (bucketFits q))) (sym (and-true (fieldsFit q)))
-      ∙ sym (found true true (eq-eqb (length l) recordSize h) z)
+      ∙ sym (found true true (eq-eqb (length l) lineSize h) z)
 
-  pub read-marked : length l ≡ recordSize → blank (part zerosAt valueAt l) ≡ false
+  pub read-marked : length l ≡ lineSize → blank (part zerosAt valueAt l) ≡ false
       → Reading.Refused (orBadField (judged q)) ≡ readOf l
   unfolding judged
   read-marked h z =
       ap (readingOf q) (sym (marked (isStep (q .step)) (fieldsFit q) (bucketFits q)))
-      ∙ sym (found true false (eq-eqb (length l) recordSize h) z)
+      ∙ sym (found true false (eq-eqb (length l) lineSize h) z)
 
 -- ---- writing a request
 module _ (q : Request) (l : List ℕ) where
@@ -117,7 +111,7 @@ module _ (q : Request) (l : List ℕ) where
 
   -- where the fields fit, the room decides
   pub write-granted : (r : Answer) (ys : List ℕ) → judged q ≡ Verdict.Passed
-      → r ≡ putAnswer l → ys ≡ putTo (recordOf (q .step) (q .bucket .0) (q .clean) (q .value)) l
+      → r ≡ putAnswer l → ys ≡ putTo (lineWith (q .step) (q .bucket .0) (q .clean) (q .value)) l
       → (r ≡ wroteAnswer q l) × (ys ≡ wroteTo q l)
   unfolding judged wroteAnswer wroteTo bytesOf putAnswer putTo
   write-granted r ys e f g =
@@ -125,14 +119,9 @@ module _ (q : Request) (l : List ℕ) where
       (f ∙ ap answerFor (sym v), g ∙ ap (λ (w : Verdict). leaves w (bytesOf q) l) (sym v))
 
 -- ---- writing an answer
--- a bool as a number
-mark-is : (t : Bool) → boolByte t ≡ cond t 1 0
-mark-is true = refl
-mark-is false = refl
-
--- the record of an answer's number, mark and value is its line
+-- the sixteen bytes of an answer's number, mark and value are its line
 pub write-line : (a : Answer) (l : List ℕ) (number value : ℕ) (mark : Bool) (ys : List ℕ)
     → number ≡ answerNumber a → mark ≡ withdraws a → value ≡ answerValue a
-    → ys ≡ putTo (recordOf number (boolByte mark) 0 value) l → ys ≡ putTo (lineOf a) l
+    → ys ≡ putTo (lineWith number (boolByte mark) 0 value) l → ys ≡ putTo (lineOf a) l
 unfolding lineOf
-write-line a l number value mark ys n m v e = e ∙ rw (n, m, v, mark-is (withdraws a))
+write-line a l number value mark ys n m v e = e ∙ rw (n, m, v, byte-is (withdraws a))

@@ -1,5 +1,5 @@
--- Reading and writing a request undo each other, and what reading accepts is exactly what writing produces; document 01's
--- sample, both ways. Assumes nothing.
+-- Reading and writing a request undo each other, and what reading accepts is exactly what writing produces; the sample of
+-- RULES 5.1, both ways. Assumes nothing.
 use Prim.Native.Nat.{ℕ, _-_, _<_, _≤_}
 use mathlib.Core.Logic.{_↔_}
 use mathlib.Core.Path.{_≡_, refl, ap, _∙_, sym}
@@ -11,24 +11,23 @@ use borrow.Rule.Slice.PartMut.{mid-len}
 use lib.Dec.{eqb}
 use lib.ListN.{length, take, drop, getD, replicate, take-append-drop, length-take, length-drop}
 use lib.Seq.{drop-drop, take-all}
-use Rattle.kinds.specs.Limits.{recordSize}
-use Rattle.steps.specs.declared.Request.{Request}
-use Rattle.steps.specs.declared.Verdict.{Verdict}
-use Rattle.steps.specs.Requests.{judged}
-use Rattle.wire.specs.Bytes.{zerosAt, valueAt, valueLimit, number, lowBytes, blank, part, recordOf}
-use Rattle.wire.specs.Requests.{InRange, bytesOf, fieldsOf, readingOf, readOf}
+use Rattle.kinds.specs.Limits.{lineSize}
+use Rattle.requests.specs.declared.{Request.Request, Verdict.Verdict}
+use Rattle.requests.specs.Requests.{judged}
 use Rattle.wire.specs.declared.Reading.{Reading}
-use Rattle.wire.proofs.Bytes.{Bytes, bytes-take, bytes-drop, zeros-are, number-below, number-lowBytes, lowBytes-number}
+use Rattle.wire.specs.Bytes.{zerosAt, valueAt, valueLimit, number, lowBytes, blank, part, lineWith, Bytes}
+use Rattle.wire.specs.Requests.{InRange, bytesOf, fieldsOf, readingOf, readOf}
+use Rattle.wire.proofs.Bytes.{bytes-take, bytes-drop, zeros-are, number-below, number-lowBytes, lowBytes-number}
 use Rattle.wire.proofs.Premises.{read-passed, read-ragged, read-fields, read-marked}
 
 -- ---- write, then read
 pub fields-bytes : (q : Request) → q .value < valueLimit → fieldsOf (bytesOf q) ≡ q
-unfolding bytesOf recordOf
+unfolding bytesOf lineWith
 fields-bytes q h =
     ap (λ (v : ℕ). record { step = q .step; bucket = q .bucket; clean = q .clean; value = v }) (number-lowBytes 8 (q .value) h)
 
 pub write-read : (q : Request) → judged q ≡ Verdict.Passed → q .value < valueLimit → readOf (bytesOf q) ≡ Reading.Request q
-unfolding bytesOf recordOf
+unfolding bytesOf lineWith
 write-read q e h =
     sym (read-fields (bytesOf q) refl refl)
     ∙ ap (λ (p : Request). readingOf p (judged p)) (fields-bytes q h)
@@ -36,23 +35,23 @@ write-read q e h =
 
 -- ---- what an accepted reading tells
 pub record Accepted (l : List ℕ) (q : Request) : Type 0 where
-  pub whole : length l ≡ recordSize
+  pub whole : length l ≡ lineSize
   pub zeros : blank (part zerosAt valueAt l) ≡ true
   pub fits : judged q ≡ Verdict.Passed
   pub fields : fieldsOf l ≡ q
 
 pub accepted : (l : List ℕ) (q : Request) → readOf l ≡ Reading.Request q → Accepted l q
-accepted l q e = go (eqb (length l) recordSize) (blank (part zerosAt valueAt l)) refl refl
+accepted l q e = go (eqb (length l) lineSize) (blank (part zerosAt valueAt l)) refl refl
   where
-    go : (long zeros : Bool) → eqb (length l) recordSize ≡ long → blank (part zerosAt valueAt l) ≡ zeros → Accepted l q
+    go : (long zeros : Bool) → eqb (length l) lineSize ≡ long → blank (part zerosAt valueAt l) ≡ zeros → Accepted l q
     go false zeros h z =
-        let r = read-ragged l (eqb-false (length l) recordSize h) in
+        let r = read-ragged l (eqb-false (length l) lineSize h) in
         absurd (let z : _≡_ {A = ℕ} 0 1 = cc in omega arith)
     go true false h z =
-        let r = read-marked l (eqb-true (length l) recordSize h) z in
+        let r = read-marked l (eqb-true (length l) lineSize h) z in
         absurd (let z : _≡_ {A = ℕ} 0 1 = cc in omega arith)
     go true true h z =
-        let w = eqb-true (length l) recordSize h in
+        let w = eqb-true (length l) lineSize h in
         let t = read-passed (fieldsOf l) q (judged (fieldsOf l)) (read-fields l w z ∙ e) in
         record { whole = w; zeros = z; fits = ap judged (sym (t .1)) ∙ t .0; fields = t .1 }
 
@@ -63,9 +62,9 @@ first-three (a ∷ []) h = absurd (omega arith)
 first-three (a ∷ b ∷ []) h = absurd (omega arith)
 first-three (a ∷ b ∷ c ∷ l) h = refl
 
-module _ (l : List ℕ) (bytes : Bytes l) (whole : length l ≡ recordSize) where
+module _ (l : List ℕ) (bytes : Bytes l) (whole : length l ≡ lineSize) where
   -- the last eight bytes are the digits of the value
-  value-bytes : lowBytes 8 (number (part valueAt recordSize l)) ≡ drop valueAt l
+  value-bytes : lowBytes 8 (number (part valueAt lineSize l)) ≡ drop valueAt l
   value-bytes =
       let eight : length (drop valueAt l) ≡ 8 = length-drop valueAt l ∙ (let e : length l - valueAt ≡ 8 = omega arith in e) in
       ap (λ (bs : List ℕ). lowBytes 8 (number bs)) (take-all 8 (drop valueAt l) (omega arith))
@@ -83,7 +82,7 @@ module _ (l : List ℕ) (bytes : Bytes l) (whole : length l ≡ recordSize) wher
       ∙ ap (λ (r : List ℕ). r ++ drop valueAt l) zeros
 
   pub bytes-fields : blank (part zerosAt valueAt l) ≡ true → bytesOf (fieldsOf l) ≡ l
-  unfolding bytesOf recordOf
+  unfolding bytesOf lineWith
   bytes-fields z =
       ap (λ (r : List ℕ). (getD l 0 0 ∷ getD l 1 0 ∷ getD l 2 0 ∷ 0 ∷ 0 ∷ 0 ∷ 0 ∷ 0 ∷ []) ++ r) value-bytes
       ∙ ap (λ (r : List ℕ). getD l 0 0 ∷ getD l 1 0 ∷ getD l 2 0 ∷ r) (sym (middle z))
@@ -120,8 +119,8 @@ accepts-written l bytes = (there, back)
         → (q : Request) × (readOf l ≡ Reading.Request q)
     back t = (t .0, rw (← t .3) (write-read (t .0) (t .1) (t .2 .value)))
 
--- ---- document 01's sample: step 22 at bucket 1 with value 5
--- nothing rests on it: it shows that the definitions have the places and the order of bytes that the document means
+-- ---- the sample of RULES 5.1: step 22 at bucket 1 with value 5
+-- nothing rests on it: it shows that the definitions have the places and the order of bytes that are meant
 abbrev sample-request : Request
 sample-request = record { step = 22; bucket = record { 0 = 1 }; clean = 0; value = 5 }
 
@@ -130,7 +129,7 @@ sample-bytes =
     0x16 ∷ 0x01 ∷ 0x00 ∷ 0x00 ∷ 0x00 ∷ 0x00 ∷ 0x00 ∷ 0x00 ∷ 0x05 ∷ 0x00 ∷ 0x00 ∷ 0x00 ∷ 0x00 ∷ 0x00 ∷ 0x00 ∷ 0x00 ∷ []
 
 pub sample-written : bytesOf sample-request ≡ sample-bytes
-unfolding bytesOf recordOf
+unfolding bytesOf lineWith
 sample-written = refl
 
 pub sample-read : readOf sample-bytes ≡ Reading.Request sample-request

@@ -1,30 +1,28 @@
--- Writing one record into a lent buffer: what is asked of the buffer, what is answered, and what the buffer holds then.
+-- Writing one line into a lent buffer: what is asked of the buffer, what is answered, and what the buffer holds then.
 use Prim.Native.Nat.{ℕ}
 use mathlib.Core.Bool.{Bool}
 use mathlib.Core.List.{List, [], _∷_, _++_}
 use lib.Dec.{leb}
 use lib.ListN.{length, drop}
-use Rattle.kinds.specs.Limits.{recordSize}
-use Rattle.steps.specs.declared.Refusal.{Refusal}
-use Rattle.steps.specs.declared.Answer.{Answer}
-use Rattle.steps.specs.declared.Verdict.{Verdict}
-use Rattle.steps.specs.Premises.{verdict}
+use Rattle.kinds.specs.Limits.{lineSize}
+use Rattle.requests.specs.declared.{Refusal.Refusal, Answer.Answer, Verdict.Verdict}
+use Rattle.requests.specs.Premises.{verdict}
 
 -- number 14
 abbrev pub room : List ℕ → Refusal × Bool
-room l = (Refusal.NoRoom, leb recordSize (length l))
+room l = (Refusal.NoRoom, leb lineSize (length l))
 
 -- accepted where the premises hold, else refused for the first that fails
 abbrev pub answerFor : Verdict → Answer
 answerFor Verdict.Passed = Answer.Accepted
 answerFor (Verdict.Failed why) = Answer.Refused why
 
--- the record over the first sixteen bytes; a refusal leaves the buffer untouched
+-- the line over the first sixteen bytes; a refusal leaves the buffer untouched
 abbrev pub leaves : Verdict → List ℕ → List ℕ → List ℕ
-leaves Verdict.Passed bytes l = bytes ++ drop recordSize l
+leaves Verdict.Passed bytes l = bytes ++ drop lineSize l
 leaves (Verdict.Failed why) bytes l = l
 
--- a record that is right in itself: what is answered, and what the buffer holds then
+-- a line that is right in itself: what is answered, and what the buffer holds then
 unfoldable pub putAnswer : List ℕ → Answer
 putAnswer l = answerFor (verdict (room l ∷ []))
 

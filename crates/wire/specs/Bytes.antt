@@ -1,12 +1,12 @@
 -- Numbers as bytes, low byte first, and the one form that a request and an answer share: sixteen bytes, of which the first
 -- three are small numbers, five are zero, and eight are a value.
-use Prim.Native.Nat.{ℕ, zero, suc, _+_, _-_, _*_, _/_, _%_, _^_}
+use Prim.Native.Nat.{ℕ, zero, suc, _+_, _-_, _*_, _/_, _%_, _^_, _<_}
 use mathlib.Core.Bool.{Bool, true, _&&_}
 use mathlib.Core.List.{List, [], _∷_, _++_}
 use lib.Dec.{eqb}
-use lib.ListN.{take, drop}
+use lib.ListN.{take, drop, getD}
 
--- ---- the places of a record
+-- ---- the places of a line
 -- where its five zeros begin
 abbrev pub zerosAt : ℕ
 zerosAt = 3
@@ -20,6 +20,10 @@ abbrev pub valueLimit : ℕ
 valueLimit = 256 ^ 8
 
 -- ---- numbers and bytes
+-- each is below 256; what lies past the end counts as 0
+abbrev pub Bytes : List ℕ → Type 0
+Bytes l = (i : ℕ) → getD l i 0 < 256
+
 -- the number that the bytes say
 abbrev pub number : List ℕ → ℕ
 number [] = 0
@@ -39,6 +43,6 @@ blank (b ∷ bs) = eqb b 0 && blank bs
 abbrev pub part : ℕ → ℕ → List ℕ → List ℕ
 part from to l = take (to - from) (drop from l)
 
--- a record: bytes 0, 1 and 2, five zeros, and a value in the last eight
-unfoldable pub recordOf : ℕ → ℕ → ℕ → ℕ → List ℕ
-recordOf a b c v = (a ∷ b ∷ c ∷ 0 ∷ 0 ∷ 0 ∷ 0 ∷ 0 ∷ []) ++ lowBytes 8 v
+-- a line: bytes 0, 1 and 2, five zeros, and a value in the last eight
+unfoldable pub lineWith : ℕ → ℕ → ℕ → ℕ → List ℕ
+lineWith a b c v = (a ∷ b ∷ c ∷ 0 ∷ 0 ∷ 0 ∷ 0 ∷ 0 ∷ []) ++ lowBytes 8 v

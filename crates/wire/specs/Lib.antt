@@ -2,3 +2,4 @@ pub mod Bytes
 pub mod Buffers
 pub mod Requests
 pub mod Answers
+pub mod Applies

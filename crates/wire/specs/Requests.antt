@@ -1,24 +1,21 @@
--- A request as sixteen bytes, and what reading and writing one answer.
+-- A request as sixteen bytes, and what reading and writing one answer (RULES 5.1, 5.3 and 5.4).
 use Prim.Native.Nat.{ℕ, _<_}
 use mathlib.Core.Bool.{Bool, cond, _&&_}
 use mathlib.Core.List.{List, [], _∷_, _++_}
 use lib.Dec.{eqb, ltb}
 use lib.ListN.{length, getD}
-use Rattle.kinds.specs.Limits.{recordSize}
-use Rattle.steps.specs.declared.Refusal.{Refusal}
-use Rattle.steps.specs.declared.Request.{Request}
-use Rattle.steps.specs.declared.Answer.{Answer}
-use Rattle.steps.specs.declared.Verdict.{Verdict}
-use Rattle.steps.specs.Answers.{refusalNumber}
-use Rattle.steps.specs.Premises.{verdict}
-use Rattle.steps.specs.Requests.{isStep, fieldsFit, bucketFits, formal}
-use Rattle.wire.specs.Bytes.{zerosAt, valueAt, valueLimit, number, blank, part, recordOf}
-use Rattle.wire.specs.Buffers.{room, answerFor, leaves}
+use Rattle.kinds.specs.Limits.{lineSize}
+use Rattle.requests.specs.declared.{Refusal.Refusal, Request.Request, Answer.Answer, Verdict.Verdict}
+use Rattle.requests.specs.Answers.{refusalNumber}
+use Rattle.requests.specs.Premises.{verdict}
+use Rattle.requests.specs.Requests.{isStep, fieldsFit, bucketFits, formal}
 use Rattle.wire.specs.declared.Reading.{Reading}
+use Rattle.wire.specs.Bytes.{zerosAt, valueAt, valueLimit, number, blank, part, lineWith}
+use Rattle.wire.specs.Buffers.{room, answerFor, leaves}
 
 -- byte 0 step, 1 bucket, 2 clean, 3 to 7 zero, 8 to 15 value
 unfoldable pub bytesOf : Request → List ℕ
-bytesOf q = recordOf (q .step) (q .bucket .0) (q .clean) (q .value)
+bytesOf q = lineWith (q .step) (q .bucket .0) (q .clean) (q .value)
 
 -- the fields are as wide as the code holds them
 pub record InRange (q : Request) : Type 0 where
@@ -35,13 +32,13 @@ fieldsOf l =
       step = getD l 0 0;
       bucket = record { 0 = getD l 1 0 };
       clean = getD l 2 0;
-      value = number (part valueAt recordSize l);
+      value = number (part valueAt lineSize l);
     }
 
 -- what is asked of the bytes: 12 first, then 2 to 4
 abbrev pub readable : List ℕ → List (Refusal × Bool)
 readable l =
-    (Refusal.NotWhole, eqb (length l) recordSize)
+    (Refusal.NotWhole, eqb (length l) lineSize)
     ∷ (Refusal.UnknownStep, isStep (fieldsOf l .step))
     ∷ (Refusal.BadField, fieldsFit (fieldsOf l) && blank (part zerosAt valueAt l))
     ∷ (Refusal.BadBucket, bucketFits (fieldsOf l))
@@ -51,6 +48,11 @@ readable l =
 abbrev pub readingOf : Request → Verdict → Reading
 readingOf q Verdict.Passed = Reading.Request q
 readingOf q (Verdict.Failed why) = Reading.Refused why
+
+-- its number (RULES 4.1): 0 where there is a request
+abbrev pub readingNumber : Reading → ℕ
+readingNumber (Reading.Request q) = 0
+readingNumber (Reading.Refused why) = refusalNumber why
 
 unfoldable pub readOf : List ℕ → Reading
 readOf l = readingOf (fieldsOf l) (verdict (readable l))

@@ -1,27 +1,27 @@
-// A request and an answer as sixteen bytes each. Whether a request's fields fit its step is judged in `steps`; here are the
-// places of the fields, low byte first, and the length.
+// A request and an answer as a line of sixteen bytes each (RULES 5). Whether a request's fields fit its step is judged in
+// `requests`; here are the places of the fields, low byte first, and the length.
 ghost use mathlib.Core.Path.{_≡_};
 ghost use Rattle.wire.specs.Answers.{lineOf};
 ghost use Rattle.wire.specs.Buffers.{putAnswer, putTo};
-ghost use Rattle.wire.specs.Bytes.{recordOf};
+ghost use Rattle.wire.specs.Bytes.{lineWith};
 ghost use Rattle.wire.specs.Requests.{orBadField, readOf, wroteAnswer, wroteTo};
 
 mod numbers;
 
 use kinds::Bucket;
-use kinds::RECORD;
+use kinds::LINE;
 use numbers::is_blank;
 pub use numbers::read_u64;
 use numbers::write_u64;
-use steps::Answer;
-use steps::Refusal;
-use steps::Request;
-use steps::Verdict;
+use requests::Answer;
+use requests::Refusal;
+use requests::Request;
+use requests::Verdict;
 
-// Where the five zeros of a record begin.
+// Where the five zeros of a line begin.
 const ZEROS: usize = 3;
 
-// Where the value of a record begins.
+// Where the value of a line begins.
 const VALUE: usize = 8;
 
 // What sixteen bytes say. A refusal gives no request.
@@ -38,7 +38,7 @@ fn or_bad_field(verdict: Verdict) -> Refusal
         return Refusal::BadField;
     };
     let bad_field = Refusal::BadField;
-    if steps::refusal_number(bad_field) < steps::refusal_number(why) {
+    if requests::refusal_number(bad_field) < requests::refusal_number(why) {
         return bad_field;
     }
     why
@@ -48,20 +48,20 @@ fn or_bad_field(verdict: Verdict) -> Refusal
 pub fn read(bytes: &[u8]) -> Reading
     ensures { λ r. ⌜ r ≡ readOf (now (bytes .entry)) ⌝ }
 {
-    if bytes.len() != RECORD {
+    if bytes.len() != LINE {
         return Reading::Refused(Refusal::NotWhole);
     }
     let step = bytes[0];
     let bucket = Bucket(bytes[1]);
     let clean = bytes[2];
-    let value = read_u64(&bytes[VALUE..RECORD]);
+    let value = read_u64(&bytes[VALUE..LINE]);
     let request = Request {
         step,
         bucket,
         clean,
         value,
     };
-    let verdict = steps::judge(request);
+    let verdict = requests::judge(request);
     if !is_blank(&bytes[ZEROS..VALUE]) {
         return Reading::Refused(or_bad_field(verdict));
     }
@@ -71,12 +71,12 @@ pub fn read(bytes: &[u8]) -> Reading
     }
 }
 
-// A record over the first sixteen bytes of the buffer, which stays as it is where it has fewer.
+// A line over the first sixteen bytes of the buffer, which stays as it is where it has fewer.
 fn put(buffer: &mut [u8], first: u8, second: u8, third: u8, value: u64) -> Answer
     ensures answer { λ r. ⌜ r ≡ putAnswer (now (buffer .entry)) ⌝ }
-    ensures bytes { λ _. ⌜ now (buffer .exit) ≡ putTo (recordOf first second third value) (now (buffer .entry)) ⌝ }
+    ensures bytes { λ _. ⌜ now (buffer .exit) ≡ putTo (lineWith first second third value) (now (buffer .entry)) ⌝ }
 {
-    if buffer.len() < RECORD {
+    if buffer.len() < LINE {
         return Answer::Refused(Refusal::NoRoom);
     }
     buffer[0] = first;
@@ -87,7 +87,7 @@ fn put(buffer: &mut [u8], first: u8, second: u8, third: u8, value: u64) -> Answe
     buffer[5] = 0;
     buffer[6] = 0;
     buffer[7] = 0;
-    write_u64(&mut buffer[VALUE..RECORD], value);
+    write_u64(&mut buffer[VALUE..LINE], value);
     Answer::Accepted
 }
 
@@ -96,7 +96,7 @@ pub fn write(request: Request, buffer: &mut [u8]) -> Answer
     ensures answer { λ r. ⌜ r ≡ wroteAnswer request (now (buffer .entry)) ⌝ }
     ensures bytes { λ _. ⌜ now (buffer .exit) ≡ wroteTo request (now (buffer .entry)) ⌝ }
 {
-    let verdict = steps::judge(request);
+    let verdict = requests::judge(request);
     if let Verdict::Failed(why) = verdict {
         return Answer::Refused(why);
     }
@@ -112,8 +112,8 @@ pub fn write_answer(answer: Answer, buffer: &mut [u8]) -> Answer
     ensures answer { λ r. ⌜ r ≡ putAnswer (now (buffer .entry)) ⌝ }
     ensures bytes { λ _. ⌜ now (buffer .exit) ≡ putTo (lineOf answer) (now (buffer .entry)) ⌝ }
 {
-    let number = steps::answer_number(answer);
-    let mark = steps::carries(answer) as u8;
-    let value = steps::answer_value(answer);
+    let number = requests::answer_number(answer);
+    let mark = requests::carries(answer) as u8;
+    let value = requests::answer_value(answer);
     put(buffer, number, mark, 0, value)
 }

@@ -1,6 +1,6 @@
 // Numbers as bytes, low byte first.
-ghost use mathlib.Core.Path.{_≡_};
 ghost use Prim.Native.Nat.{_≤_};
+ghost use mathlib.Core.Path.{_≡_};
 ghost use lib.ListN.{length, take};
 ghost use Rattle.wire.specs.Bytes.{number, lowBytes, blank};
 

@@ -27,4 +27,7 @@ main-spec =
     (λ c. fits (c .before))
     (λ c. sym (length-take-le _ _ (fits (c .before .before))))
     (λ c κs. tt)
+    (λ c. search needs)
+    (λ c κs. tt)
+    (λ c. search needs)
     (λ c. search needs))

@@ -1,4 +1,4 @@
--- `lock::apply` meets its contract: a walk of its MIR, by hand. The walk itself is that of crates/walks (Lent.antt), over any
+-- `lock::apply` meets its contract: a walk of its MIR, by hand. The walk itself is that of crates/loans (Lent.antt), over any
 -- record, request and answer; Machine.antt has what ours are to it. Here stand what the call of `step` asks and gives back, and
 -- what is had at exit. All that the proof knows of `step` is that it meets its contract. Assumes nothing.
 use Prim.Native.Nat.{ℕ}
@@ -15,7 +15,8 @@ use prog.Wp.{Heap, Calls, Loops, WpFn, Tables}
 use ghost.Atoms.{Atoms, sem}
 use contract.Monad.{Fun, fact}
 use contract.Running.{givenOf, tables, tablesOf}
-use types.Kit.{Given, ‵, _⊛_, _$_, _∵_, !, qed, by, move, keep, drop, split, join, fsplit, fsplit3, fjoin, fjoin3, feqI, suffices, frame, done}
+use types.Kit.{Given, ‵, _⊛_, _$_, _∵_, !, qed, by, move, keep, drop, split, join, fsplit, fsplit3, fjoin, fjoin3, feqI}
+use types.Kit.{suffices, frame, done}
 use types.SemTy.{Body}
 use sound.WpLaws.{FmC, fmOf, WpFn-mono}
 use denote.RattleType.{owns}
@@ -24,35 +25,36 @@ use denote.Memory.{mem}
 use denote.Ref.{RefT, MutRef, ptr-vals, mut-tells}
 use denote.Signature.{plain}
 use denote.Steps.{only, owned, nothing}
-use denote.Struct.Laws as LL
-use denote.Enum.Laws as EL
 use denote.Triple.Statement.{Contract, Triple}
 use denote.Triple.Entry.{onEntry}
 use denote.Triple.Spec.{Meets, tripleOf}
 use denote.Triple.Table.{entered, cited}
-use denote.Triple.Walked.{says, Stays, stay-ref, stay-none, walkOf, AllGo, goes-none, goes-ref, Walks, ends-at, walked, walk-meets}
+use denote.Triple.Walked.{says, Stays, stay-ref, stay-none, walkOf, AllGo, goes-none, goes-ref, Walks, ends-at, walked}
+use denote.Triple.Walked.{walk-meets}
 use denote.Triple.Clauses.{ensured, lasts}
 use denote.Exit.{yes}
-use Rattle.walks.proofs.Kind as K
-use Rattle.walks.proofs.Lent as Lent
+use denote.Struct.Laws as LL
+use denote.Enum.Laws as EL
 use Rattle.page_record.specs.declared.Page.{Page}
 use Rattle.page_record.proofs.Page as P
 use Rattle.page_record.proofs.Page.Laws as P′
-use Rattle.steps.specs.declared.Request.{Request}
-use Rattle.steps.proofs.Request as Q
-use Rattle.steps.proofs.Request.Laws as Q′
-use Rattle.steps.proofs.Answer as R
-use Rattle.steps.proofs.Answer.Laws as R′
-use Rattle.lock.specs.Step.{stepOf}
+use Rattle.requests.specs.declared.Request.{Request}
+use Rattle.requests.proofs.Request as Q
+use Rattle.requests.proofs.Request.Laws as Q′
+use Rattle.requests.proofs.Answer as R
+use Rattle.requests.proofs.Answer.Laws as R′
+use Rattle.loans.proofs.Kind as K
+use Rattle.loans.proofs.Lent as Lent
 use Rattle.lock.specs.declared.Outcome.{Outcome}
+use Rattle.lock.specs.Step.{stepOf}
+use Rattle.lock.proofs.Machine.{pv, qv, rv, page-kind, request-kind, answer-kind, outcome-kind}
+use Rattle.lock.proofs.step.Symbol.{name as #lock·step}
+use Rattle.lock.proofs.apply.Key.{name as #lock·apply}
 use Rattle.lock.proofs.Outcome as O
 use Rattle.lock.proofs.Outcome.Laws as O′
-use Rattle.lock.proofs.Machine.{pv, qv, rv, page-kind, request-kind, answer-kind, outcome-kind}
 use Rattle.lock.proofs.step as step
 use Rattle.lock.proofs.step.Symbol as step-def
-use Rattle.lock.proofs.step.Symbol.{name as #lock·step}
 use Rattle.lock.proofs.step.Met as step-thm
-use Rattle.lock.proofs.apply.Key.{name as #lock·apply}
 use Rattle.lock.proofs.apply as apply
 use Rattle.lock.proofs.apply.Statement as stated
 use Rattle.lock.proofs.apply.Code as code

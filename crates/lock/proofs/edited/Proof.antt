@@ -1,4 +1,4 @@
--- `lock::edited` meets its contract: each return, by what its tests, its matches and its calls showed. Assumes nothing.
+-- `lock::edited` meets its contract: each part is its test, or what its call ensures. Assumes nothing.
 use borrow.Author.Needs.{needs}
 use Rattle.lock.specs.Step.{editedIn}
 use Rattle.lock.proofs.edited.Statement.{statement}

@@ -1,4 +1,4 @@
--- `lock::look_for` meets its contract: each return, by what its tests, its matches and its calls showed. Assumes nothing.
+-- `lock::look_for` meets its contract: each part is its test, or what its call ensures. Assumes nothing.
 use borrow.Author.Needs.{needs}
 use Rattle.lock.specs.Step.{lookFor}
 use Rattle.lock.proofs.look_for.Statement.{statement}

@@ -1,6 +1,6 @@
--- `lock::step` meets its contract: each return, by what its tests, its matches and its calls showed. Assumes nothing.
+-- `lock::step` meets its contract: each part is its test, or what its call ensures. Assumes nothing.
 use borrow.Author.Needs.{needs}
-use Rattle.steps.proofs.Tests.{denied, granted}
+use Rattle.laws.proofs.Tests.{fails-by, holds-by}
 use Rattle.lock.specs.Step.{stepOf}
 use Rattle.lock.proofs.step.Statement.{statement}
 use Rattle.lock.proofs.step.Tie as tie
@@ -14,7 +14,7 @@ step-spec =
     (λ c κs. tt)
     (λ c.
     let sound = c .before .before .is-sound in
-    simp (c .refuse .ensures, denied (sound .ensures) (c .before .if1 .taken)))
+    simp (c .refuse .ensures, fails-by (sound .ensures) (c .before .if1 .taken)))
     (λ c κs. tt)
     (λ c. search needs)
     (λ c κs. tt)
@@ -28,7 +28,7 @@ step-spec =
       c .take-step .ensures,
       c .before .enum-told .given .1,
       ← read .judge .ensures,
-      granted (sound .ensures) (tested .if1 .left),
+      holds-by (sound .ensures) (tested .if1 .left),
     ))
     (λ c.
     let read = c .before .before .before .before in
@@ -38,5 +38,5 @@ step-spec =
       c .refuse2 .ensures,
       c .before .before .verdict .given .1,
       ← read .judge .ensures,
-      granted (sound .ensures) (tested .if1 .left),
+      holds-by (sound .ensures) (tested .if1 .left),
     )))

@@ -1,4 +1,4 @@
--- `lock::take_step` meets its contract: each return, by what its tests, its matches and its calls showed. Assumes nothing.
+-- `lock::take_step` meets its contract: each part is its test, or what its call ensures. Assumes nothing.
 use Rattle.lock.proofs.take_step.Statement.{statement}
 use Rattle.lock.proofs.take_step.Tie as tie
 

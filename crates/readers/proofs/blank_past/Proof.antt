@@ -7,24 +7,24 @@ use borrow.Author.Needs.{needs}
 use borrow.Author.Tests.{not-true, not-false}
 use lib.ListN.{length, drop, length-map}
 use lib.Seq.{take-all}
+use Rattle.laws.proofs.Turns.{Passing, all-pass, one-fails, one-passes}
 use Rattle.kinds.specs.Limits.{capacity}
 use Rattle.readers.specs.Same.{sameReader}
 use Rattle.readers.specs.Listed.{blankReader}
-use Rattle.readers.proofs.Turns.{Passing, all-pass, one-fails, one-passes}
 use Rattle.readers.proofs.blank_past.Statement.{statement}
 use Rattle.readers.proofs.blank_past.Tie as tie
 
 abbrev Inv-loop : tie.InvT-loop
-Inv-loop items i₀ i = (length items ≡ capacity) × Passing (sameReader blankReader) (drop i₀ items) items capacity i
+Inv-loop rs i₀ i =
+    (length (rs .items) ≡ capacity) × Passing (sameReader blankReader) (drop i₀ (rs .items)) (rs .items) capacity i
 
 abbrev μ-loop : tie.MeasureT-loop
-μ-loop items i₀ i = capacity - i
+μ-loop rs i₀ i = capacity - i
 
 loop-holds : tie.Need-loop-holds Inv-loop μ-loop
 loop-holds c =
-    let b = c .before in
-    let full : length (b .args .rs .items) ≡ capacity = simp length-map at (b .good .0 .1 .1 .0 .1 .0 .1) in
-    (full, record { whole = rw (take-all capacity (b .args .rs .items) (omega arith)) })
+    let full = simp length-map at (c .good .0 .1 .1 .0 .1 .0 .1) in
+    (full, record { whole = rw (take-all capacity (c .args .t1 .items) (omega arith)) })
 
 returns : tie.Need-returns Inv-loop μ-loop
 returns c =

@@ -7,21 +7,21 @@ use native.Mathlib.Omega.{arith}
 use borrow.Author.Needs.{needs}
 use borrow.Author.Tests.{eq-eqb, ne-eqb}
 use lib.ListN.{length, length-map}
+use Rattle.laws.proofs.Turns.{Counting, counted, one-more, passed-over}
 use Rattle.kinds.specs.Limits.{capacity}
 use Rattle.readers.specs.Listed.{isAt, blankReader}
-use Rattle.readers.proofs.Turns.{Counting, counted, one-more, passed-over}
 use Rattle.readers.proofs.count_at.Statement.{statement}
 use Rattle.readers.proofs.count_at.Tie as tie
 
 abbrev Inv-loop : tie.InvT-loop
-Inv-loop bucket items len n₀ i₀ n i = (length items ≡ capacity) × Counting (isAt (bucket .0)) items len n i
+Inv-loop bucket rs len n₀ i₀ n i = (length (rs .items) ≡ capacity) × Counting (isAt (bucket .0)) (rs .items) len n i
 
 abbrev μ-loop : tie.MeasureT-loop
-μ-loop bucket items len n₀ i₀ n i = capacity - i
+μ-loop bucket rs len n₀ i₀ n i = capacity - i
 
 loop-holds : tie.Need-loop-holds Inv-loop μ-loop
 loop-holds c =
-    let full = simp length-map at (c .before .good .0 .1 .1 .0 .1 .0 .1) in
+    let full = simp length-map at (c .good .0 .1 .1 .0 .1 .0 .1) in
     (full, record { few = search needs; whole = search needs })
 
 returns : tie.Need-returns Inv-loop μ-loop

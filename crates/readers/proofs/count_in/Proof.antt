@@ -6,21 +6,22 @@ use mathlib.Core.Logic.{⊎-elim}
 use native.Mathlib.Omega.{arith}
 use borrow.Author.Needs.{needs}
 use lib.ListN.{length, length-map}
+use Rattle.laws.proofs.Turns.{Counting, counted, one-more, passed-over}
 use Rattle.kinds.specs.Limits.{capacity}
 use Rattle.readers.specs.Listed.{isIn, blankReader}
-use Rattle.readers.proofs.Turns.{Counting, counted, one-more, passed-over}
 use Rattle.readers.proofs.count_in.Statement.{statement}
 use Rattle.readers.proofs.count_in.Tie as tie
 
 abbrev Inv-loop : tie.InvT-loop
-Inv-loop bucket phase items len n₀ i₀ n i = (length items ≡ capacity) × Counting (isIn (bucket .0) phase) items len n i
+Inv-loop bucket phase rs len n₀ i₀ n i =
+    (length (rs .items) ≡ capacity) × Counting (isIn (bucket .0) phase) (rs .items) len n i
 
 abbrev μ-loop : tie.MeasureT-loop
-μ-loop bucket phase items len n₀ i₀ n i = capacity - i
+μ-loop bucket phase rs len n₀ i₀ n i = capacity - i
 
 loop-holds : tie.Need-loop-holds Inv-loop μ-loop
 loop-holds c =
-    let full = simp length-map at (c .before .good .0 .1 .1 .0 .1 .0 .1) in
+    let full = simp length-map at (c .good .0 .1 .1 .0 .1 .0 .1) in
     (full, record { few = search needs; whole = search needs })
 
 returns : tie.Need-returns Inv-loop μ-loop

@@ -8,10 +8,10 @@ use borrow.Author.Needs.{needs}
 use borrow.Author.Tests.{le-leb, lt-leb, le-ltb, lt-ltb}
 use lib.ListN.{length, drop, length-map}
 use lib.Seq.{paste, paste-zero}
-use Rattle.kinds.specs.Limits.{capacity}
+use Rattle.laws.proofs.Turns.{closed-at, moved, stands}
 use Rattle.kinds.specs.declared.Reader.{Reader}
+use Rattle.kinds.specs.Limits.{capacity}
 use Rattle.readers.specs.Listed.{removedAt, blankReader}
-use Rattle.readers.proofs.Turns.{closed-at, moved, stands}
 use Rattle.readers.proofs.remove.Statement.{statement}
 use Rattle.readers.proofs.remove.Tie as tie
 

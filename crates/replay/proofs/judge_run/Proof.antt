@@ -14,7 +14,11 @@ judge-run-spec =
     (λ c. search needs)
     (λ c κs. tt)
     (λ c. simp (sym (c .before .is-sound .ensures) ∙ not-true _ (c .if1 .taken)))
-    (λ c. simp (sym (c .before .before .is-sound .ensures) ∙ not-false _ (c .before .if1 .left), ne-eqb _ _ (c .if2 .taken)))
+    (λ c.
+    simp (
+      sym (c .before .before .is-sound .ensures) ∙ not-false _ (c .before .if1 .left),
+      ne-eqb _ _ (c .if2 .taken),
+    ))
     (λ c.
     let w = c .before in
     let s = w .before in

@@ -1,8 +1,8 @@
--- `replay::refuse` meets its contract: what `write_answer` does with the record, and whether it fits. Assumes nothing.
+-- `replay::refuse` meets its contract: what `write_answer` does with the line, and whether it fits. Assumes nothing.
 use mathlib.Core.Path.{refl, sym}
 use borrow.Author.Needs.{needs}
 use borrow.Author.Tests.{le-leb, lt-leb}
-use Rattle.steps.specs.declared.Answer.{Answer}
+use Rattle.requests.specs.declared.Answer.{Answer}
 use Rattle.wire.specs.Answers.{lineOf}
 use Rattle.wire.proofs.Buffers.{put-short}
 use Rattle.replay.proofs.refuse.Statement.{statement}

@@ -4,9 +4,9 @@ use mathlib.Core.Path.{_≡_, refl, ap, _∙_, sym}
 use native.Mathlib.Omega.{arith}
 use borrow.Author.Needs.{needs}
 use Rattle.page_record.specs.declared.Page.{Page}
-use Rattle.steps.specs.declared.Answer.{Answer}
+use Rattle.requests.specs.declared.Answer.{Answer}
 use Rattle.replay.specs.Run.{ranOf, answersOf}
-use Rattle.replay.proofs.Judged.{allowed}
+use Rattle.replay.proofs.Judged.{fit}
 use Rattle.replay.proofs.Loop.{Going, going, page-gone, lines-gone}
 use Rattle.replay.proofs.run.Statement.{statement}
 use Rattle.replay.proofs.run.Tie as tie
@@ -24,7 +24,7 @@ returns c = simp (← c .before .before .before .judge-run .ensures, c .before .
 
 loop-holds : tie.Need-loop-holds Inv-loop μ-loop
 loop-holds c =
-    let a = allowed (sym (c .before .before .judge-run .ensures) ∙ c .enum-told .given .1) in
+    let a = fit (sym (c .before .before .judge-run .ensures) ∙ c .enum-told .given .1) in
     record { ahead = omega arith; room = omega arith; long = refl; ends = refl; says = refl }
 
 loop-again : tie.Need-loop-again Inv-loop μ-loop

@@ -13,5 +13,10 @@ turn-spec =
     (λ c. search needs)
     (λ c κs. tt)
     (λ c. search needs)
-    (λ c. simp (c .step .ensures, ← c .before .before .before .before .read .ensures, c .before .before .request .given .1))
+    (λ c.
+    simp (
+      c .step .ensures,
+      ← c .before .before .before .before .read .ensures,
+      c .before .before .request .given .1,
+    ))
     (λ c. simp (← c .before .before .before .read .ensures, c .before .why .given .1)))

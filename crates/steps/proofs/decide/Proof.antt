@@ -4,14 +4,13 @@ use Prim.Native.Nat.{ℕ, suc, _≤_}
 use mathlib.Core.Bool.{Bool}
 use mathlib.Core.Path.{_≡_, _∙_, ap, sym}
 use lib.ListN.{getD, List·getD-eq-default}
+use Rattle.laws.proofs.Arms.{past}
 use Rattle.readers.specs.declared.Found.{Found}
 use Rattle.page_record.specs.declared.Head.{Head}
-use Rattle.steps.specs.declared.Refusal.{Refusal}
-use Rattle.steps.specs.declared.Request.{Request}
-use Rattle.steps.specs.Premises.{refused, decided}
-use Rattle.steps.specs.Requests.{lastStep}
+use Rattle.requests.specs.declared.{Refusal.Refusal, Request.Request}
+use Rattle.requests.specs.Requests.{lastStep}
+use Rattle.heads.specs.Decisions.{refused, decided}
 use Rattle.steps.specs.Decide.{decideOf, steps, unknown}
-use Rattle.steps.proofs.Numbers.{past}
 use Rattle.steps.proofs.decide.Statement.{statement}
 use Rattle.steps.proofs.decide.Tie as tie
 
@@ -77,9 +76,9 @@ decide-spec =
     (λ c. c .deposit-loading-to-done .ensures ∙ sym (named _ _ _ _ 17 (c .before .match .keys18)))
     (λ c. c .exc-inc-count .ensures ∙ sym (named _ _ _ _ 18 (c .before .match .keys19)))
     (λ c. c .shared-inc-count .ensures ∙ sym (named _ _ _ _ 19 (c .before .match .keys20)))
-    (λ c. c .shared-dec-count-pending .ensures ∙ sym (named _ _ _ _ 20 (c .before .match .keys21)))
-    (λ c. c .shared-dec-count-pending2 .ensures ∙ sym (named _ _ _ _ 21 (c .before .match .keys22)))
-    (λ c. c .shared-dec-count-obtained .ensures ∙ sym (named _ _ _ _ 22 (c .before .match .keys23)))
+    (λ c. c .shared-dec-count .ensures ∙ sym (named _ _ _ _ 20 (c .before .match .keys21)))
+    (λ c. c .shared-dec-count2 .ensures ∙ sym (named _ _ _ _ 21 (c .before .match .keys22)))
+    (λ c. c .shared-dec-count3 .ensures ∙ sym (named _ _ _ _ 22 (c .before .match .keys23)))
     (λ c. c .shared-check-exc .ensures ∙ sym (named _ _ _ _ 23 (c .before .match .keys24)))
     (λ c. c .shared-check-loading .ensures ∙ sym (named _ _ _ _ 24 (c .before .match .keys25)))
     (λ c. c .refuse2 .ensures ∙ sym (nameless _ _ _ _ (past (suc lastStep) _ (c .before .match .rest)))))

@@ -4,12 +4,12 @@ use Prim.Native.Nat.{suc}
 use mathlib.Core.List.{[], _∷_}
 use mathlib.Core.Path.{_∙_, sym}
 use lib.ListN.{replicate}
+use Rattle.laws.proofs.Arms.{elsewhere, every-same}
 use Rattle.kinds.specs.declared.Phase.{Phase}
+use Rattle.requests.specs.Requests.{lastStep}
+use Rattle.heads.specs.Decisions.{reader}
 use Rattle.steps.specs.declared.Sought.{Sought}
-use Rattle.steps.specs.Steps.{reader}
-use Rattle.steps.specs.Requests.{lastStep}
 use Rattle.steps.specs.Decide.{soughtOf}
-use Rattle.steps.proofs.Numbers.{elsewhere, every-same}
 use Rattle.steps.proofs.sought_by.Statement.{statement}
 use Rattle.steps.proofs.sought_by.Tie as tie
 

@@ -9,11 +9,11 @@ use borrow.Author.Needs.{needs}
 use borrow.Author.Tests.{not-true, not-false}
 use lib.ListN.{getD, drop}
 use lib.Seq.{take-take}
-use Rattle.steps.specs.declared.Request.{Request}
-use Rattle.steps.specs.Requests.{judged}
+use Rattle.requests.specs.declared.Request.{Request}
+use Rattle.requests.specs.Requests.{judged}
+use Rattle.wire.specs.declared.Reading.{Reading}
 use Rattle.wire.specs.Bytes.{zerosAt, valueAt, number, blank, part}
 use Rattle.wire.specs.Requests.{fieldsOf, readingOf, orBadField}
-use Rattle.wire.specs.declared.Reading.{Reading}
 use Rattle.wire.proofs.Premises.{read-ragged, read-fields, read-marked}
 use Rattle.wire.proofs.read.Statement.{statement}
 use Rattle.wire.proofs.read.Tie as tie

@@ -5,7 +5,7 @@ use native.Mathlib.Omega.{arith}
 use borrow.Author.Needs.{needs}
 use borrow.Author.Tests.{eq-eqb, ne-eqb}
 use lib.ListN.{length, drop, drop-of-length-le}
-use Rattle.readers.proofs.Turns.{next}
+use Rattle.laws.proofs.Turns.{next}
 use Rattle.wire.specs.Bytes.{blank}
 use Rattle.wire.proofs.numbers.is_blank.Statement.{statement}
 use Rattle.wire.proofs.numbers.is_blank.Tie as tie

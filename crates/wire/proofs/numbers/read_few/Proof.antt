@@ -5,7 +5,7 @@ use native.Mathlib.Omega.{arith}
 use borrow.Author.Needs.{needs}
 use lib.ListN.{length, drop, length-drop}
 use lib.Seq.{drop-length}
-use Rattle.readers.proofs.Turns.{next}
+use Rattle.laws.proofs.Turns.{next}
 use Rattle.wire.specs.Bytes.{number}
 use Rattle.wire.proofs.Bytes.{bytes-drop, number-below}
 use Rattle.wire.proofs.numbers.read_few.Statement.{statement}

@@ -1,0 +1,119 @@
+-- One turn of each loop over readers, here and in the crates above, as laws over any element type and any list. In order: a
+-- look at one entry after the other (`next`, `turn`, with the ends `past` and `past-all`); a count of those that pass a test
+-- (`Counting`); whether all pass it (`Passing`); a gap that is closed (`moved`, `stands`, with the end `closed-at`). Assumes
+-- nothing.
+use Prim.Native.Nat.{ℕ, suc, _+_, _-_, _<_, _≤_, min}
+use mathlib.Core.Path.{_≡_, _∙_, sym}
+use mathlib.Core.Bool.{Bool, true, false}
+use mathlib.Core.List.{List, [], _∷_, _++_}
+use native.Mathlib.Omega.{arith}
+use native.Mathlib.Numerals.{add-one}
+use lib.ListN.{length, take, drop, getD, set, drop-of-length-le, length-take, length-drop}
+use lib.Seq.{drop-cons, getD-take, getD-drop, paste, paste-suc, drop-paste, length-paste-head, take-add, drop-at}
+use lib.Seq.{length-take-le, take-take, set-at}
+use Rattle.laws.specs.Lists.{tally, every, without}
+
+-- n of the first i entries pass: with those that are left, that is the tally of an array's first `len`
+pub record Counting {A : Type 0} (test : A → Bool) (items : List A) (len n i : ℕ) : Type 0 where
+  pub few : n ≤ i
+  pub whole : n + tally test (drop i (take len items)) ≡ tally test (take len items)
+
+-- all pass just if those do that are left of an array's first `len`, from i on
+pub record Passing {A : Type 0} (test : A → Bool) (all items : List A) (len i : ℕ) : Type 0 where
+  pub whole : every test all ≡ every test (drop i (take len items))
+
+module _ {A : Type 0} where
+  -- ---- one entry after the other: the entry at i, and then what is left after it
+  module _ (d : A) (items : List A) (i : ℕ) where
+    pub next : i < length items → drop i items ≡ getD items i d ∷ drop (i + 1) items
+    next h = rw (add-one, drop-cons items i d)
+
+    -- the same of an array's first `len`
+    pub turn : (len : ℕ) → i < len → i < length items → drop i (take len items) ≡ getD items i d ∷ drop (i + 1) (take len items)
+    turn len h k =
+        let w : i < length (take len items) = simp length-take (omega arith) in
+        rw (add-one, drop-cons (take len items) i d, getD-take)
+
+  -- nothing is left past the length, nor past the array's end
+  module _ (items : List A) (len i : ℕ) where
+    spent : min len (length items) ≤ i → drop i (take len items) ≡ []
+    spent h = drop-of-length-le (take len items) {i = i} (simp length-take h)
+
+    pub past : len ≤ i → drop i (take len items) ≡ []
+    past h = spent (omega arith)
+
+    pub past-all : length items ≤ i → drop i (take len items) ≡ []
+    past-all h = spent (omega arith)
+
+  -- ---- a count of those that pass
+  module _ {test : A → Bool} {items : List A} {len n i : ℕ} (so-far : Counting test items len n i) where
+    -- all are counted
+    pub counted : min len (length items) ≤ i → n ≡ tally test (take len items)
+    counted h =
+        let e = simp (spent items len i) at (so-far .whole) in
+        omega arith
+
+    module _ (d : A) (h : i < len) (k : i < length items) where
+      pub one-more : test (getD items i d) ≡ true → Counting test items len (n + 1) (i + 1)
+      one-more t =
+          let e = simp (turn d, t) at (so-far .whole) in
+          record { few = omega arith; whole = omega arith }
+
+      pub passed-over : test (getD items i d) ≡ false → Counting test items len n (i + 1)
+      passed-over t =
+          let e = simp (turn d, t) at (so-far .whole) in
+          record { few = omega arith; whole = omega arith }
+
+  -- ---- whether all pass
+  module _ {test : A → Bool} {all items : List A} {len i : ℕ} (so-far : Passing test all items len i) where
+    -- none is left
+    pub all-pass : min len (length items) ≤ i → true ≡ every test all
+    all-pass h = sym (so-far .whole ∙ simp (spent items len i))
+
+    module _ (d : A) (h : i < len) (k : i < length items) where
+      pub one-fails : test (getD items i d) ≡ false → false ≡ every test all
+      one-fails t = sym (so-far .whole ∙ simp (turn d, t))
+
+      pub one-passes : test (getD items i d) ≡ true → Passing test all items len (i + 1)
+      one-passes t = record { whole = so-far .whole ∙ simp (turn d, t) }
+
+  -- ---- a gap is closed: the later entries move down, one after the other
+  module _ (old : List A) (at n : ℕ) (b : A) where
+    -- the next of the later entries moves down
+    pub moved : at + 1 + n < length old
+        → set (paste old at (drop (at + 1) old) n) (at + n) (getD old (at + 1 + n) b) ≡ paste old at (drop (at + 1) old) (n + 1)
+    moved h =
+        let inside : at + n < length old = omega arith in
+        let more : n < length (drop (at + 1) old) = simp length-drop (omega arith) in
+        rw (← getD-drop (at + 1) old n b, paste-suc, ← add-one n)
+
+    -- it is read where it still stands, though others have moved
+    pub stands : at + 1 + n < length old → getD (paste old at (drop (at + 1) old) n) (at + 1 + n) b ≡ getD old (at + 1 + n) b
+    stands h =
+        let s = drop (at + 1) old in
+        let more : n ≤ length s = simp length-drop (omega arith) in
+        let early : at ≤ length old = omega arith in
+        let e : at + 1 + n ≡ at + n + 1 = omega arith in
+        rw (e, ← getD-drop (at + n) (paste old at s n) 1 b, drop-paste, getD-drop)
+
+    -- b, where the last of them stood
+    closed : at + 1 + n ≤ length old
+        → set (paste old at (drop (at + 1) old) n) (at + n) b ≡ without at (take (at + 1 + n) old) ++ b ∷ drop (at + 1 + n) old
+    closed h =
+        let s = drop (at + 1) old in
+        let inside : at + n < length old = omega arith in
+        let front : length (take at old ++ take n s) ≡ at + n =
+        length-paste-head old at s n (omega arith) (simp length-drop (omega arith)) in
+        let later : drop (at + 1) (take (at + 1 + n) old) ≡ take n s =
+        rw take-add (drop-at (take (at + 1) old) (take n s) (at + 1) (length-take-le (at + 1) old (omega arith))) in
+        let early : take at (take (at + 1 + n) old) ≡ take at old = take-take at (at + 1 + n) old (omega arith) in
+        let next : suc (at + n) ≡ at + 1 + n = omega arith in
+        let put = set-at (take at old ++ take n s) (getD old (at + n) b) (drop (suc (at + n)) old) b (at + n) in
+        rw (drop-cons old (at + n) b, put, later, early, next)
+
+    pub closed-at : (len : ℕ) → len ≤ length old → len ≡ at + 1 + n
+        → set (paste old at (drop (at + 1) old) n) (len - 1) b ≡ without at (take len old) ++ b ∷ drop len old
+    closed-at len h e =
+        let f : len - 1 ≡ at + n = omega arith in
+        let h : at + 1 + n ≤ length old = omega arith in
+        rw (f, e, closed)

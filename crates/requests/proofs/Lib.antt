@@ -1,0 +1,4 @@
+pub mod Verdicts
+pub mod Reasons
+pub mod Formed
+pub mod Least

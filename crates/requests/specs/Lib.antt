@@ -1,0 +1,4 @@
+pub mod Premises
+pub mod Answers
+pub mod Requests
+pub mod Applies

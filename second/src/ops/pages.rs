@@ -1,0 +1,259 @@
+//! Raw pages: sound ones, ones that break each rule, and payloads without
+//! meaning. After each page comes a look, a step by value, a step with the page
+//! lent, and a run, so that every function meets every page.
+
+use super::drawn::{any_page, change, walked_page};
+use super::image::{after, entry_place, Image};
+use super::random::Random;
+use super::request::{step, Draft};
+use super::situations::{
+    self, available, claimed, claimed_counted, editing, editing_uncounted, load_counted,
+    load_pending, loading, loading_uncounted, pending, unmapped, visited, visiting, writeback,
+    writeback_and_claimed, writeback_and_pending, LOADED,
+};
+use super::stream::Stream;
+use super::walks::Hand;
+use super::Plan;
+use crate::kinds::Flag;
+use crate::raw::{place, IMAGE};
+use crate::record::{sound, Page};
+
+/// So many readers at each bucket, on a fresh page.
+fn crowd(numbers: [usize; 4]) -> Vec<Draft> {
+    (0..)
+        .zip(numbers)
+        .map(|(bucket, number)| step(19).at(bucket).times(number))
+        .collect()
+}
+
+/// One page or more for each rule, and for each limit of rule 8. With each the
+/// lowest rule that it breaks, or 0. Rule 8's limits of a holder's bucket, of
+/// visited and of a listed reader's bucket are in rules 2, 4 and 7 as well, so
+/// it is never alone there.
+pub fn main_pages() -> Vec<(u8, Image)> {
+    use place::{EXC_BUCKET, EXC_VALUE, LOADER_BUCKET, STORAGE_IN, VISITED, WRITEBACK};
+    let full = after(&crowd([16; 4]));
+    let most = after(&crowd([1, 0, 31, 0]));
+    vec![
+        (1, after(&unmapped()).set(STORAGE_IN, 0)),
+        (1, after(&load_pending()).set(STORAGE_IN, 1)),
+        (2, after(&claimed()).value(EXC_VALUE, OTHER)),
+        (2, after(&visited()).set(VISITED, 5)),
+        (2, after(&claimed_counted()).set(EXC_BUCKET, 4).count(3, 1)),
+        (3, after(&writeback()).value(WRITEBACK, OTHER)),
+        (
+            4,
+            after(&load_counted()).set(LOADER_BUCKET, 255).count(2, 0),
+        ),
+        (4, after(&loading()).set(LOADER_BUCKET, 200).count(2, 0)),
+        (5, after(&unmapped()).count(2, 1)),
+        (6, after(&claimed()).flag(Flag::PendingExcLock)),
+        (7, after(&available()).entry(1, 3, 3, OTHER)),
+        (7, after(&unmapped()).entry(0, 1, 4, 0).count(1, 0)),
+        (8, full.clone().length(65)),
+        (8, full.clone().length(66)),
+        (8, full.clone().length(65_535)),
+        (8, most.length(33).entry(32, 1, 2, 0).count(2, 32)),
+        (8, after(&unmapped()).entry(1, 2, 0, 0)),
+        (8, after(&available()).entry(READERS, 1, 1, 0)),
+        (8, after(&available()).entry(63, 3, 0, LOADED)),
+        (8, after(&unmapped()).entry(1, 3, 0, 0)),
+        (0, full),
+        (0, after(&editing_uncounted()).value(EXC_VALUE, OTHER)),
+    ]
+}
+
+/// A value that a loaded page does not have.
+const OTHER: u64 = LOADED + 1;
+
+/// How many readers `available` has.
+const READERS: usize = 6;
+
+/// More pages, of which a short stream has only some.
+pub fn more_pages() -> Vec<(u8, Image)> {
+    let mut pages = holders_apart();
+    pages.extend(readers_apart());
+    pages.extend(high_bits());
+    pages.extend(several_rules());
+    pages
+}
+
+/// Rules 1 to 6, by holders that do not go with the rest.
+fn holders_apart() -> Vec<(u8, Image)> {
+    use place::{
+        CLEAN, EXC_BUCKET, EXC_KIND, EXC_VALUE, LOADER_BUCKET, STORAGE, STORAGE_IN, WRITEBACK,
+        WRITEBACK_IN,
+    };
+    let loading = after(&loading_uncounted()).set(EXC_BUCKET, 255);
+    vec![
+        (1, after(&editing()).set(STORAGE_IN, 1)),
+        (1, loading.clone().set(STORAGE_IN, 1)),
+        (1, after(&visiting()).set(STORAGE_IN, 0)),
+        (2, after(&pending()).value(EXC_VALUE, 0)),
+        (2, after(&visiting()).value(STORAGE, OTHER)),
+        (2, after(&editing()).set(EXC_BUCKET, 200).count(2, 0)),
+        (2, after(&visiting()).set(WRITEBACK_IN, 1)),
+        (2, after(&editing()).set(WRITEBACK_IN, 1)),
+        (2, loading.clone().set(EXC_KIND, 1)),
+        (2, loading.clone().set(EXC_KIND, 4)),
+        (3, loading.set(WRITEBACK_IN, 1)),
+        (
+            3,
+            after(&writeback_and_pending()).value(WRITEBACK, LOADED ^ 1 << 63),
+        ),
+        (4, after(&load_counted()).set(LOADER_BUCKET, 4).count(2, 0)),
+        (4, after(&loading_uncounted()).set(LOADER_BUCKET, 254)),
+        (5, after(&available()).count(1, 3)),
+        (5, after(&claimed_counted()).count(3, 1)),
+        (5, after(&load_counted()).count(2, 255)),
+        (6, after(&unmapped()).flag(Flag::LoadingExcLock)),
+        (6, after(&claimed()).flag(Flag::Unmapped)),
+        (6, after(&pending()).flag(Flag::Claimed)),
+        (6, after(&load_counted()).flag(Flag::Loading)),
+        (6, after(&visiting()).flag(Flag::ExcLockClean)),
+        (6, after(&loading_uncounted()).flag(Flag::LoadingExcLock)),
+        (6, after(&writeback()).flag(Flag::Available)),
+        (6, after(&writeback_and_claimed()).flag(Flag::Writeback)),
+        (
+            6,
+            after(&writeback_and_pending()).flag(Flag::PendingExcLock),
+        ),
+        (6, after(&editing()).set(CLEAN, 0)),
+    ]
+}
+
+/// Numbers that are right but for a high bit: whoever drops it sees a sound
+/// page.
+fn high_bits() -> Vec<(u8, Image)> {
+    use place::{EXC_BUCKET, LOADER_BUCKET, VISITED};
+    vec![
+        (2, after(&claimed_counted()).set(EXC_BUCKET, 3 + 4)),
+        (2, after(&visited()).set(VISITED, 4 + 8)),
+        (4, after(&loading()).set(LOADER_BUCKET, 2 + 128)),
+        (5, after(&unmapped()).count(1, 1 + 32)),
+        (5, after(&unmapped()).count(1, 1 + 128)),
+        (5, after(&available()).length(READERS as u16 + 64)),
+        (5, after(&available()).length(READERS as u16 + 256)),
+        (5, after(&unmapped()).entry(0, 1, 1 + 4, 0)),
+        (8, after(&unmapped()).entry(1, 1, 128, 0)),
+    ]
+}
+
+/// Rules 5, 7 and 8, by readers, and pages that just keep them.
+fn readers_apart() -> Vec<(u8, Image)> {
+    let visited = |number: u8| after(&visited()).set(place::VISITED, number);
+    vec![
+        (5, after(&crowd([16; 4])).length(63)),
+        (5, after(&crowd([16, 16, 16, 15])).length(65)),
+        (7, after(&unmapped()).entry(0, 2, 1, 0)),
+        (7, after(&unmapped()).entry(0, 3, 1, 0)),
+        (7, after(&load_counted()).entry(0, 2, 1, 0)),
+        (7, after(&loading()).entry(1, 3, 3, 0)),
+        (7, after(&editing()).entry(0, 2, 1, 0)),
+        (7, visited(2).entry(0, 2, 1, 0)),
+        (7, visited(2).entry(0, 3, 1, LOADED)),
+        (8, after(&crowd([16; 4])).length(256)),
+        (8, after(&available()).entry(READERS, 0, 255, 0)),
+        (8, after(&available()).entry(40, 2, 0, 0)),
+        (0, visited(1).entry(0, 2, 1, 0)),
+        (0, visited(1).entry(0, 3, 1, LOADED)),
+        (0, after(&available()).entry(READERS, 1, 0, OTHER)),
+        (0, after(&crowd([31, 31, 2, 0]))),
+    ]
+}
+
+/// A rule and others above it: the lowest is the one that is named.
+fn several_rules() -> Vec<(u8, Image)> {
+    use place::{EXC_VALUE, LOADER_BUCKET, STORAGE_IN, WRITEBACK};
+    vec![
+        (1, after(&claimed()).set(STORAGE_IN, 0).count(0, 9)),
+        (2, after(&claimed()).value(EXC_VALUE, 0).length(65)),
+        (3, after(&writeback()).value(WRITEBACK, 0).count(0, 32)),
+        (4, after(&loading()).set(LOADER_BUCKET, 9).entry(0, 3, 9, 0)),
+        (5, after(&available()).count(0, 9).flag(Flag::Claimed)),
+        (
+            6,
+            after(&available()).flag(Flag::Writeback).entry(0, 3, 1, 0),
+        ),
+        (7, after(&available()).entry(0, 3, 1, 0).entry(63, 2, 0, 0)),
+    ]
+}
+
+/// Payloads without meaning, one for each ground.
+pub fn without_meaning() -> Vec<Vec<u8>> {
+    let page = after(&claimed_counted());
+    let changed = |place: usize, byte: u8| page.clone().set(place, byte).0.to_vec();
+    vec![
+        changed(place::FLAG, 11),
+        changed(place::STORAGE_IN, 2),
+        changed(place::CLEAN, 2),
+        changed(place::WRITEBACK_IN, 255),
+        changed(place::EXC_KIND, 5),
+        changed(place::LOADER_KIND, 4),
+        changed(entry_place(0), 4),
+        changed(entry_place(63), 255),
+        page.0[..IMAGE - 1].to_vec(),
+        [&page.0[..], &[0]].concat(),
+        vec![],
+    ]
+}
+
+/// The pages of the tables, payloads without meaning, and drawn pages.
+pub fn play(stream: &mut Stream, random: &mut Random, plan: &Plan, walked: &[Page]) {
+    for (_, image) in main_pages() {
+        meet(stream, random, &image);
+    }
+    for (place, (_, image)) in (plan.seed % 7..).zip(more_pages()) {
+        if plan.long() || place % 7 == 0 {
+            meet(stream, random, &image);
+        }
+    }
+    for payload in without_meaning() {
+        stream.push(7, 0, &payload);
+        stream.look();
+    }
+    if plan.long() {
+        play_situations(stream, random);
+    }
+    play_drawn(stream, random, plan, walked);
+}
+
+/// Every situation with something else about it.
+fn play_situations(stream: &mut Stream, random: &mut Random) {
+    for situation in situations::all() {
+        for _ in 0..3 {
+            let flag = random.pick(&Flag::ALL);
+            meet(stream, random, &after(&situation).flag(flag));
+            let changed = change(random, after(&situation));
+            meet(stream, random, &changed);
+        }
+    }
+}
+
+/// A page that a walk came by and three others, and so on, one for every
+/// hundred requests of the walks.
+fn play_drawn(stream: &mut Stream, random: &mut Random, plan: &Plan, walked: &[Page]) {
+    for turn in 0..(plan.requests / 100).max(4) {
+        let image = if turn % 4 == 0 {
+            walked_page(random, walked)
+        } else {
+            any_page(random, walked)
+        };
+        meet(stream, random, &image);
+    }
+}
+
+/// A page, and every function on it. Where it is sound, more is asked, so that
+/// its holders show.
+fn meet(stream: &mut Stream, random: &mut Random, image: &Image) {
+    stream.raw(&image.0);
+    stream.look();
+    let hand = Hand::for_page(stream.page());
+    stream.ask(&hand.draw(random, stream.page()));
+    stream.ask(&hand.draw(random, stream.page()));
+    let length = if sound(stream.page()) { 9 } else { 2 };
+    let requests = hand.draw_run(random, stream.page(), length);
+    let bytes = requests.as_flattened();
+    stream.run(bytes, bytes.len() + random.below(3));
+    stream.look();
+}

@@ -1,0 +1,350 @@
+//! What is asked by script: document 01's worked cases, the ceilings, equal
+//! readers, values of all 64 bits, and every step in every situation.
+
+use super::random::Random;
+use super::request::{records, step, Draft, EDGES};
+use super::situations::{self, LOADED};
+use super::stream::Stream;
+use super::Plan;
+use crate::run::answer_line;
+use crate::steps::{takes_bucket, takes_value};
+use crate::wire::RECORD;
+
+/// Cases A to H, where C goes on from B, D from C, E from D; then the steps that
+/// no case accepts.
+const CASES: [&[Draft]; 7] = [
+    // A
+    &[step(12), step(17).of(5)],
+    // B to E
+    &[
+        step(11),
+        step(13).at(2),
+        step(14),
+        step(19).at(1),
+        step(23).at(1),
+        step(24).at(1),
+        step(17).of(5),
+        step(24).at(1),
+        // C
+        step(1),
+        step(4).at(1).of(5),
+        step(5),
+        step(6).clean(1),
+        step(2),
+        step(6),
+        // D
+        step(7),
+        step(8),
+        step(7),
+        step(19).at(3),
+        step(23).at(3),
+        step(7),
+        step(7),
+        step(20).at(3),
+        step(7),
+        step(7),
+        step(8),
+        // E
+        step(9).of(6),
+    ],
+    // F
+    &[step(13).at(9), step(13), step(25).at(4), step(1).at(1)],
+    // G
+    &[step(19).at(4), step(19).at(3)],
+    // H
+    &[step(24), step(2)],
+    // 15, and then 16, 21, 22, 3, 18 and 10
+    &[step(11), step(15)],
+    &[
+        step(11),
+        step(13).at(1),
+        step(14),
+        step(16).of(5),
+        step(19).at(2),
+        step(23).at(2),
+        step(21).at(2),
+        step(22).at(1).of(5),
+        step(3),
+        step(5),
+        step(6).clean(1),
+        step(7).times(4),
+        step(8),
+        step(18).at(3),
+        step(10).of(6),
+    ],
+];
+
+/// Which of several equal readers is meant shows where another one stands
+/// between them, so after each of these comes a look.
+const EQUAL_READERS: [&[Draft]; 3] = [
+    // Pending: one leaves, then two change.
+    &[
+        step(19),
+        step(19).at(1),
+        step(19),
+        step(19).at(2),
+        step(19),
+        step(20),
+        step(23),
+        step(23),
+    ],
+    // Pending2: one leaves, then one changes.
+    &[
+        step(19),
+        step(23),
+        step(19).at(1),
+        step(19),
+        step(23),
+        step(19).at(2),
+        step(19),
+        step(23),
+        step(21),
+        step(24),
+    ],
+    // Obtained: one leaves, then one makes a claim.
+    &[
+        step(19),
+        step(23),
+        step(24),
+        step(19).at(1),
+        step(19),
+        step(23),
+        step(24),
+        step(19).at(2),
+        step(19),
+        step(23),
+        step(24),
+        step(22).of(LOADED),
+        step(4).of(LOADED),
+    ],
+];
+
+/// How a page gets its first value.
+const LOAD: [Draft; 4] = [step(11), step(13), step(14), step(17).of(LOADED)];
+
+/// How an editor without a bucket comes to the page.
+const EDIT: [Draft; 5] = [
+    step(3),
+    step(5),
+    step(6).clean(1),
+    step(7).times(4),
+    step(8),
+];
+
+/// So many readers at each bucket.
+const fn readers(numbers: [usize; 4]) -> [Draft; 4] {
+    [
+        step(19).times(numbers[0]),
+        step(19).at(1).times(numbers[1]),
+        step(19).at(2).times(numbers[2]),
+        step(19).at(3).times(numbers[3]),
+    ]
+}
+
+/// What fills the page in a run, and what is then asked by single requests.
+type Ceiling = (Vec<Draft>, Vec<Draft>);
+
+/// Case I, and the ceilings where a loader or an editor is the holder.
+fn ceilings() -> Vec<Ceiling> {
+    let load: &[Draft] = &LOAD;
+    let edit: &[Draft] = &EDIT;
+    vec![
+        // Case I. Without a loader or an editor the ceiling is not asked for.
+        (
+            readers([32, 0, 0, 0]).to_vec(),
+            vec![step(19), step(13), step(18)],
+        ),
+        (
+            readers([16, 16, 16, 17]).to_vec(),
+            vec![step(19), step(16), step(9)],
+        ),
+        (
+            readers([31, 31, 2, 0]).to_vec(),
+            vec![step(19), step(19).at(1), step(19).at(2)],
+        ),
+        // A loader at a full bucket, and then with one reader less.
+        (
+            [&[step(11)], &readers([0, 31, 0, 0])[..], &[step(13).at(1)]].concat(),
+            vec![
+                step(13).at(1),
+                step(20).at(1),
+                step(13).at(1),
+                step(19).at(1),
+                step(14),
+                step(17).of(9),
+                step(19).at(1).times(2),
+            ],
+        ),
+        // A loader and a full list: it cannot stay as a reader.
+        (
+            [&[step(11), step(13), step(14)], &readers([16; 4])[..]].concat(),
+            vec![step(16).of(3), step(20).at(2), step(16).of(3), step(19)],
+        ),
+        // An editor at a full bucket, without a bucket and with one.
+        (
+            [load, edit, &readers([31, 0, 0, 0]), &[step(18)]].concat(),
+            vec![
+                step(18),
+                step(18).at(1),
+                step(18).at(2),
+                step(18),
+                step(10).of(9),
+            ],
+        ),
+        // An editor and a full list: it can keep its claim, but it cannot stay
+        // as a reader.
+        (
+            [load, edit, &readers([15, 16, 16, 17])].concat(),
+            vec![
+                step(9).of(1),
+                step(18).at(1),
+                step(9).of(1),
+                step(19).at(1),
+                step(20).at(3),
+                step(9).of(1),
+                step(19),
+            ],
+        ),
+    ]
+}
+
+/// The page's way through a reader, a claimant and an editor, and what each
+/// refuses that asks with another value.
+fn values(first: u64, second: u64, third: u64) -> Vec<Draft> {
+    vec![
+        step(11),
+        step(13).at(3),
+        step(14),
+        step(16).of(first),
+        step(22).at(3).of(first ^ 1 << 63),
+        step(4).at(3).of(first ^ 1),
+        step(4).at(3).of(first),
+        step(1),
+        step(5),
+        step(6),
+        step(7).times(4),
+        step(8),
+        step(10).of(second),
+        step(5),
+        step(6).clean(1),
+        step(7).times(4),
+        step(8),
+        step(9).of(third),
+        step(1),
+        step(2),
+        step(22).at(3).of(second),
+        step(22).at(3).of(third),
+    ]
+}
+
+/// A claimant of this bucket visits all four, and meets a reader at each.
+fn visits(own: u8) -> Vec<Draft> {
+    let mut script = vec![
+        step(11),
+        step(13).at(own),
+        step(14),
+        step(16).of(LOADED),
+        step(4).at(own).of(LOADED),
+        step(5),
+        step(6).clean(own % 2),
+    ];
+    for bucket in 0..4 {
+        let meeting = [
+            step(19).at(bucket),
+            step(7),
+            step(8),
+            step(20).at(bucket),
+            step(7),
+        ];
+        script.extend(meeting);
+    }
+    script.extend([step(7), step(8), step(7), step(8), step(18)]);
+    script
+}
+
+/// All scripts but the situations.
+pub fn play(stream: &mut Stream, random: &mut Random) {
+    play_cases(stream);
+    for script in EQUAL_READERS {
+        stream.play(&LOAD);
+        for request in records(script) {
+            stream.ask(&request);
+            stream.look();
+        }
+    }
+    for (filled, asked) in ceilings() {
+        stream.play(&filled);
+        for request in records(&asked) {
+            ask_twice(stream, &request);
+        }
+        stream.look();
+    }
+    for bucket in 0..4 {
+        stream.play(&visits(bucket));
+        stream.look();
+    }
+    for value in EDGES {
+        let script = values(value, random.number(), random.value());
+        stream.fresh(value);
+        stream.run_all(&records(&script));
+        stream.look();
+    }
+}
+
+/// Each case twice, so that each of its requests is once asked by value and
+/// once with the page lent.
+fn play_cases(stream: &mut Stream) {
+    for (case, lent) in CASES.iter().flat_map(|case| [(case, false), (case, true)]) {
+        stream.fresh(0);
+        stream.lend_next(lent);
+        for request in records(case) {
+            stream.ask(&request);
+            stream.look();
+        }
+    }
+}
+
+/// By value, and where that is refused, with the page lent too.
+fn ask_twice(stream: &mut Stream, request: &[u8; RECORD]) {
+    let refused = answer_line(&mut stream.page().clone(), request).is_err();
+    stream.lend_next(false);
+    stream.ask(request);
+    if refused {
+        stream.ask(request);
+    }
+}
+
+/// Every step in every situation: first all that are refused there, and then
+/// one that is accepted, or in a long stream each of them.
+pub fn play_situations(stream: &mut Stream, random: &mut Random, plan: &Plan) {
+    for situation in situations::all() {
+        let page = situations::page_after(&situation);
+        let accepts = |request: &[u8; RECORD]| answer_line(&mut page.clone(), request).is_ok();
+        let (accepted, refused): (Vec<_>, Vec<_>) = every_step().into_iter().partition(accepts);
+        stream.play(&situation);
+        stream.look();
+        stream.run_all(&refused);
+        stream.look();
+        let chosen = random.pick(&accepted);
+        stream.ask(&chosen);
+        stream.look();
+        for request in accepted.iter().filter(|_| plan.long()) {
+            stream.play(&situation);
+            stream.ask(request);
+            stream.look();
+        }
+    }
+}
+
+/// A good request of every step, at two buckets where it takes one.
+fn every_step() -> Vec<[u8; RECORD]> {
+    let mut requests = vec![step(6).clean(1).bytes()];
+    for number in 1..=24 {
+        let value = if takes_value(number) { LOADED } else { 0 };
+        let buckets: &[u8] = if takes_bucket(number) { &[1, 3] } else { &[0] };
+        for &bucket in buckets {
+            requests.push(step(number).at(bucket).of(value).bytes());
+        }
+    }
+    requests
+}

@@ -1,0 +1,107 @@
+//! A stream in the making. It does each operation as it is written, so that
+//! the page it will meet is always known.
+
+use super::request::{records, Draft};
+use crate::drill::{Drill, Operation};
+use crate::raw::IMAGE;
+use crate::record::Page;
+use crate::wire::RECORD;
+
+/// What is written so far, and the drill that it leaves.
+pub struct Stream {
+    bytes: Vec<u8>,
+    drill: Drill,
+    /// Whether the next single request has its page lent.
+    lent: bool,
+}
+
+impl Stream {
+    /// Nothing yet.
+    pub fn start() -> Stream {
+        Stream {
+            bytes: Vec::new(),
+            drill: Drill::start(),
+            lent: false,
+        }
+    }
+
+    /// The page as the operations so far leave it.
+    pub fn page(&self) -> &Page {
+        self.drill.page()
+    }
+
+    /// The bytes, at the end.
+    pub fn bytes(self) -> Vec<u8> {
+        self.bytes
+    }
+
+    /// Bytes as they are, after which nothing is known any more.
+    pub fn finish(&mut self, bytes: &[u8]) {
+        self.bytes.extend(bytes);
+    }
+
+    /// Any operation that is listed.
+    pub fn push(&mut self, number: u8, a: u64, payload: &[u8]) {
+        self.bytes.extend(operation_bytes(number, a, payload));
+        let payload = payload.to_vec();
+        self.drill.perform(&Operation { number, a, payload });
+    }
+
+    /// A fresh page.
+    pub fn fresh(&mut self, value: u64) {
+        self.push(1, value, &[]);
+    }
+
+    /// Says whether the next single request has its page lent.
+    pub fn lend_next(&mut self, lent: bool) {
+        self.lent = lent;
+    }
+
+    /// One request, whole or not: by value and lent by turns.
+    pub fn ask(&mut self, request: &[u8]) {
+        let number = if self.lent { 3 } else { 2 };
+        self.lent = !self.lent;
+        self.push(number, 0, request);
+    }
+
+    /// A run, with so much room for its answers.
+    pub fn run(&mut self, requests: &[u8], room: usize) {
+        self.push(4, room as u64, requests);
+    }
+
+    /// A run of these requests, with just the room that it needs.
+    pub fn run_all(&mut self, requests: &[[u8; RECORD]]) {
+        let bytes = requests.as_flattened();
+        self.run(bytes, bytes.len());
+    }
+
+    /// A fresh page of 0, and this script on it in one run.
+    pub fn play(&mut self, script: &[Draft]) {
+        self.fresh(0);
+        self.run_all(&records(script));
+    }
+
+    /// One request written back, with so much room.
+    pub fn write_back(&mut self, fields: &[u8], room: usize) {
+        self.push(5, room as u64, fields);
+    }
+
+    /// A look at the page.
+    pub fn look(&mut self) {
+        self.push(6, 0, &[]);
+    }
+
+    /// A raw page.
+    pub fn raw(&mut self, image: &[u8; IMAGE]) {
+        self.push(7, 0, image);
+    }
+}
+
+/// The bytes of an operation: its head, then its payload.
+pub fn operation_bytes(number: u8, a: u64, payload: &[u8]) -> Vec<u8> {
+    let mut bytes = vec![number, 0, 0, 0];
+    bytes.extend((payload.len() as u32).to_le_bytes());
+    bytes.extend(a.to_le_bytes());
+    bytes.extend(payload);
+    bytes
+}

@@ -1,0 +1,250 @@
+//! Long walks: requests drawn one after the other, most of them such as the
+//! page accepts where it stands.
+
+use super::damage::one_wrong;
+use super::random::Random;
+use super::request::{records, step};
+use super::stream::Stream;
+use super::Plan;
+use crate::kinds::SharedState;
+use crate::record::Page;
+use crate::run::answer_line;
+use crate::steps::{takes_bucket, takes_clean, takes_value};
+use crate::wire::RECORD;
+
+/// How the requests of a walk are drawn.
+struct Mix {
+    /// The steps; one that stands there twice is drawn twice as often.
+    steps: &'static [u8],
+    /// Whether the page is loaded first.
+    loaded: bool,
+    /// How many requests a walk makes before the next one starts.
+    length: usize,
+}
+
+const MIXES: [Mix; 5] = [READERS, LOADERS, EDITORS, ARCHIVE, EVERYTHING];
+
+/// Readers come and go, and more of them come than go.
+const READERS: Mix = Mix {
+    steps: &[
+        19, 19, 19, 19, 19, 19, 19, 19, 23, 23, 23, 24, 24, 24, 20, 21, 22, 1, 2,
+    ],
+    loaded: true,
+    length: 400,
+};
+
+/// Loaders, until the page is there. A loader without a bucket stays for good,
+/// so these walks are short.
+const LOADERS: Mix = Mix {
+    steps: &[11, 11, 12, 13, 13, 14, 15, 16, 17, 19, 20, 21, 23, 24],
+    loaded: false,
+    length: 16,
+};
+
+/// Claimants and editors all the way, and a few readers in their way.
+const EDITORS: Mix = Mix {
+    steps: &[
+        3, 4, 4, 4, 5, 5, 6, 6, 7, 7, 7, 7, 7, 7, 8, 8, 8, 9, 10, 10, 18, 18, 19, 23, 24, 20, 20,
+        20, 21, 21, 22,
+    ],
+    loaded: true,
+    length: 300,
+};
+
+/// The archive beside a claim.
+const ARCHIVE: Mix = Mix {
+    steps: &[
+        1, 1, 1, 2, 3, 4, 4, 5, 6, 7, 7, 7, 8, 9, 9, 18, 19, 23, 24, 20, 20, 21, 21, 22,
+    ],
+    loaded: true,
+    length: 200,
+};
+
+const EVERYTHING: Mix = Mix {
+    steps: &[
+        1, 2, 3, 4, 5, 6, 7, 8, 9, 10, 11, 12, 13, 14, 15, 16, 17, 18, 19, 20, 21, 22, 23, 24,
+    ],
+    loaded: false,
+    length: 60,
+};
+
+/// How often a request is drawn again until the page accepts it.
+const TRIES: usize = 12;
+
+/// The longest run in a walk.
+const LONGEST_RUN: usize = 12;
+
+/// Walks of every mix. Gives back pages that they came by, at least one.
+pub fn play(stream: &mut Stream, random: &mut Random, plan: &Plan) -> Vec<Page> {
+    let mut pages = vec![stream.page().clone()];
+    for mix in &MIXES {
+        let mut left = plan.requests / MIXES.len();
+        while left > 0 {
+            let length = left.min(mix.length);
+            walk(stream, random, mix, length, &mut pages);
+            left -= length;
+        }
+    }
+    pages
+}
+
+/// One walk from a fresh page, with looks strewn in.
+fn walk(stream: &mut Stream, random: &mut Random, mix: &Mix, length: usize, pages: &mut Vec<Page>) {
+    let hand = Hand {
+        steps: mix.steps,
+        bucket: random.byte_below(4),
+    };
+    stream.fresh(random.value());
+    if mix.loaded {
+        let bucket = random.byte_below(4);
+        let last = step(16 + random.byte_below(2)).of(random.value());
+        stream.run_all(&records(&[step(11), step(13).at(bucket), step(14), last]));
+    }
+    let mut left = length;
+    while left > 0 {
+        left -= go_on(stream, random, &hand, left);
+        if random.one_in(3) {
+            stream.look();
+        }
+        if random.one_in(6) {
+            pages.push(stream.page().clone());
+        }
+    }
+    stream.look();
+}
+
+/// The next requests, by single steps or in a run; tells how many they were.
+fn go_on(stream: &mut Stream, random: &mut Random, hand: &Hand, left: usize) -> usize {
+    if !random.one_in(4) {
+        stream.ask(&hand.draw(random, stream.page()));
+        return 1;
+    }
+    let length = left.min(1 + random.below(LONGEST_RUN));
+    let requests = hand.draw_run(random, stream.page(), length);
+    let bytes = requests.as_flattened();
+    let room = match random.below(8) {
+        0 => random.below(bytes.len()),
+        1..=3 => bytes.len() + random.below(20),
+        _ => bytes.len(),
+    };
+    stream.run(bytes, room);
+    length
+}
+
+/// What requests are drawn by: the steps, and a bucket that is liked best, so
+/// that a bucket can come to its ceiling before the list is full.
+pub struct Hand {
+    steps: &'static [u8],
+    bucket: u8,
+}
+
+impl Hand {
+    /// One for a page that came from elsewhere: it knows what the holders can
+    /// do next, because a look does not show them.
+    pub fn for_page(page: &Page) -> Hand {
+        let mix = if page.exc_state.is_some() {
+            EDITORS
+        } else if page.loading_state.is_some() {
+            LOADERS
+        } else {
+            EVERYTHING
+        };
+        Hand {
+            steps: mix.steps,
+            bucket: 0,
+        }
+    }
+
+    /// A request: mostly one that the page accepts, at times a wrong one.
+    pub fn draw(&self, random: &mut Random, page: &Page) -> [u8; RECORD] {
+        match random.below(16) {
+            0 => random.pick(&one_wrong()),
+            1 => careless(random),
+            2..=4 => self.fitting(random, page),
+            _ => self.accepted(random, page),
+        }
+    }
+
+    /// The requests of a run, each drawn for the page that the one before it
+    /// leaves.
+    pub fn draw_run(&self, random: &mut Random, page: &Page, length: usize) -> Vec<[u8; RECORD]> {
+        let mut page = page.clone();
+        let mut requests = Vec::new();
+        for _ in 0..length {
+            let request = self.draw(random, &page);
+            let _ = answer_line(&mut page, &request);
+            requests.push(request);
+        }
+        requests
+    }
+
+    fn accepted(&self, random: &mut Random, page: &Page) -> [u8; RECORD] {
+        let mut request = self.fitting(random, page);
+        for _ in 1..TRIES {
+            if answer_line(&mut page.clone(), &request).is_ok() {
+                break;
+            }
+            request = self.fitting(random, page);
+        }
+        request
+    }
+
+    /// A good request whose fields fit the page, as far as one can tell from
+    /// its readers and its storage.
+    fn fitting(&self, random: &mut Random, page: &Page) -> [u8; RECORD] {
+        let number = random.pick(self.steps);
+        let mut draft = step(number);
+        if takes_bucket(number) {
+            draft = draft.at(self.fitting_bucket(random, page, number));
+        }
+        if takes_clean(number) {
+            draft = draft.clean(random.byte_below(2));
+        }
+        if takes_value(number) {
+            draft = draft.of(fitting_value(random, page, number));
+        }
+        draft.bytes()
+    }
+
+    /// The bucket of a reader that the step is about, if there is one.
+    fn fitting_bucket(&self, random: &mut Random, page: &Page, number: u8) -> u8 {
+        let meant = |reader: &&SharedState| match number {
+            20 | 23 => reader.phase() == 0,
+            21 | 24 => reader.phase() == 1,
+            4 | 22 => reader.phase() == 2,
+            _ => false,
+        };
+        let readers: Vec<_> = page.shared_state.listed().iter().filter(meant).collect();
+        if !readers.is_empty() {
+            return random.pick(&readers).bucket().0;
+        }
+        if random.one_in(2) {
+            self.bucket
+        } else {
+            random.byte_below(4)
+        }
+    }
+}
+
+/// The page's own value where the step asks for it, mostly.
+fn fitting_value(random: &mut Random, page: &Page, number: u8) -> u64 {
+    match page.storage {
+        Some(value) if matches!(number, 4 | 22) && !random.one_in(12) => value,
+        _ => random.value(),
+    }
+}
+
+/// A request whose fields nobody fitted: any step, any bucket, any choice.
+fn careless(random: &mut Random) -> [u8; RECORD] {
+    let mut draft = step(random.byte_below(27)).at(random.byte_below(6));
+    if random.one_in(4) {
+        draft = draft.clean(random.byte_below(3));
+    }
+    if random.one_in(2) {
+        draft = draft.of(random.value());
+    }
+    if random.one_in(8) {
+        draft = draft.blank(3 + random.below(5), random.byte());
+    }
+    draft.bytes()
+}

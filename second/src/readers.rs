@@ -1,0 +1,59 @@
+//! The list of readers: its length, and a place for each reader that fits.
+//!
+//! Every length and every filling can be written down, so that a list that
+//! breaks the rules can be held and judged.
+
+use crate::kinds::{SharedState, CAPACITY};
+
+/// The readers, the newest last.
+#[derive(Clone, Debug, PartialEq, Eq)]
+pub struct Readers {
+    /// The length as it is kept, above the capacity too.
+    pub length: u16,
+    /// All places, those past the length too.
+    pub entries: [SharedState; CAPACITY],
+}
+
+impl Readers {
+    /// Nobody, and all places blank.
+    pub fn none() -> Readers {
+        Readers {
+            length: 0,
+            entries: [SharedState::BLANK; CAPACITY],
+        }
+    }
+
+    /// The listed readers: all places, where the length is above the capacity.
+    pub fn listed(&self) -> &[SharedState] {
+        &self.entries[..self.end()]
+    }
+
+    /// The places past the length.
+    pub fn past(&self) -> &[SharedState] {
+        &self.entries[self.end()..]
+    }
+
+    /// Puts a reader at the end of a list that has room.
+    pub fn push(&mut self, reader: SharedState) {
+        self.entries[self.end()] = reader;
+        self.length += 1;
+    }
+
+    /// Takes the reader at this place out; later entries close the gap, and
+    /// the place that comes free is blank.
+    pub fn remove(&mut self, place: usize) {
+        let last = self.end() - 1;
+        self.entries.copy_within(place + 1..=last, place);
+        self.entries[last] = SharedState::BLANK;
+        self.length -= 1;
+    }
+
+    /// Gives the reader at this place another phase; it keeps its place.
+    pub fn change(&mut self, place: usize, reader: SharedState) {
+        self.entries[place] = reader;
+    }
+
+    fn end(&self) -> usize {
+        usize::from(self.length).min(CAPACITY)
+    }
+}

@@ -1,0 +1,105 @@
+//! Streams of `ops`, taken apart.
+
+use second::drill::{Drill, Operation};
+use second::kinds::Answer;
+use second::record::Page;
+use second::run::answer_line;
+use second::wire::{answer_bytes, value_at};
+
+/// The listed operations of a stream, and the bytes that are left: nothing, or
+/// how it ends badly.
+pub fn operations(mut stream: &[u8]) -> (Vec<Operation>, &[u8]) {
+    let mut operations = Vec::new();
+    while let Some((operation, rest)) = first_operation(stream) {
+        operations.push(operation);
+        stream = rest;
+    }
+    (operations, stream)
+}
+
+fn first_operation(stream: &[u8]) -> Option<(Operation, &[u8])> {
+    let (head, rest) = stream.split_at_checked(16)?;
+    let length = (value_at(head, 0) >> 32) as usize;
+    if !(1..=7).contains(&head[0]) || head[1..4] != [0; 3] || length > 65_536 {
+        return None;
+    }
+    let (payload, rest) = rest.split_at_checked(length)?;
+    let operation = Operation {
+        number: head[0],
+        a: value_at(head, 8),
+        payload: payload.to_vec(),
+    };
+    Some((operation, rest))
+}
+
+/// The requests from one fresh or raw page to the next.
+#[allow(dead_code)]
+pub struct Walk {
+    /// The value of the fresh page, or none where it came from elsewhere.
+    pub fresh: Option<u64>,
+    pub asked: Vec<Asked>,
+}
+
+/// One request, single or in a run that was not refused as a whole.
+#[allow(dead_code)]
+pub struct Asked {
+    pub before: Page,
+    pub bytes: Vec<u8>,
+    pub answer: Answer,
+    pub after: Page,
+}
+
+/// All requests of a stream. On the way it is seen that the drill leaves the
+/// pages and writes the answers that single requests do.
+#[allow(dead_code)]
+pub fn walks(stream: &[u8]) -> Vec<Walk> {
+    let mut drill = Drill::start();
+    let mut walks = vec![start(Some(0))];
+    for operation in operations(stream).0 {
+        let mut page = drill.page().clone();
+        let written = drill.perform(&operation).unwrap();
+        let lines = match operation.number {
+            1 => {
+                walks.push(start(Some(operation.a)));
+                continue;
+            }
+            7 => {
+                walks.push(start(None));
+                continue;
+            }
+            2 | 3 => &written[..],
+            4 if written[0] == 0 => &written[16..],
+            _ => continue,
+        };
+        let answered = answer(&mut page, &operation);
+        assert_eq!(&page, drill.page());
+        for (asked, line) in answered.iter().zip(lines.chunks(16)) {
+            assert_eq!(answer_bytes(&asked.answer), line);
+        }
+        walks.last_mut().unwrap().asked.extend(answered);
+    }
+    walks
+}
+
+fn start(fresh: Option<u64>) -> Walk {
+    let asked = Vec::new();
+    Walk { fresh, asked }
+}
+
+/// The operation's requests, one by one.
+fn answer(page: &mut Page, operation: &Operation) -> Vec<Asked> {
+    let single = operation.number != 4;
+    let length = if single { operation.payload.len() } else { 16 };
+    let mut answered = Vec::new();
+    for bytes in operation.payload.chunks(length.max(1)) {
+        let before = page.clone();
+        let answer = answer_line(page, bytes);
+        answered.push(Asked {
+            before,
+            bytes: bytes.to_vec(),
+            answer,
+            after: page.clone(),
+        });
+    }
+    answered
+}

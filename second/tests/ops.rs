@@ -1,0 +1,440 @@
+//! What the streams of `ops` promise: everything occurs, and how they end.
+
+mod common;
+
+use std::collections::BTreeSet;
+
+use common::{operations, walks, Asked};
+use second::drill::{program, Drill, Operation};
+use second::kinds::{Request, StoredType};
+use second::ops::ends::{end_of, End, ENDS};
+use second::ops::pages::{main_pages, more_pages, without_meaning};
+use second::ops::{stream, Plan, REQUESTS};
+use second::raw::{read_raw, write_raw};
+use second::record::{
+    census, exc_state_invariants, flag_invariant, limits, loading_state_invariants,
+    lowest_broken_rule, ref_count_invariant, shared_storage_invariant, storage_some_invariant,
+    writeback_state_invariants, Page,
+};
+use second::steps::step;
+use second::wire::read_request;
+
+fn short(seed: u64) -> Vec<u8> {
+    let requests = REQUESTS;
+    stream(&Plan { seed, requests })
+}
+
+fn long(seed: u64) -> Vec<u8> {
+    let requests = 4_000;
+    stream(&Plan { seed, requests })
+}
+
+fn answers(stream: &[u8]) -> Vec<u8> {
+    let mut output = Vec::new();
+    program(stream, &mut output).unwrap();
+    output
+}
+
+#[test]
+fn a_stream_is_made_the_same_again() {
+    assert_eq!(short(1), short(1));
+    assert_ne!(short(1), short(13));
+    assert_eq!(long(3), long(3));
+}
+
+#[test]
+fn the_first_stream_is_small() {
+    let stream = short(1);
+    assert!((80_000..=120_000).contains(&stream.len()));
+    assert!(answers(&stream).len() <= 250_000);
+}
+
+#[test]
+fn a_stream_may_have_no_walks_and_any_seed() {
+    for seed in [0, u64::MAX] {
+        let requests = 0;
+        let stream = stream(&Plan { seed, requests });
+        assert!(!answers(&stream).is_empty());
+    }
+}
+
+/// How a request is made.
+const BY_VALUE: usize = 0;
+const LENT: usize = 1;
+const IN_A_RUN: usize = 2;
+
+/// What occurs in a stream.
+#[derive(Default)]
+struct Seen {
+    /// The steps that were accepted, by how they were made.
+    accepted: [BTreeSet<u8>; 3],
+    /// The numbers that were given to requests, by how they were made.
+    numbers: [BTreeSet<u8>; 3],
+    /// The numbers that were given to runs as a whole.
+    runs: BTreeSet<u8>,
+    /// The numbers that were given where a request was written back.
+    written: BTreeSet<u8>,
+    /// The numbers that were given to raw pages.
+    raw: BTreeSet<u8>,
+    /// What looks told: soundness and the lowest broken rule.
+    rules: BTreeSet<(u8, u8)>,
+    /// What was there when somebody looked: flags, and kinds of holders.
+    flags: BTreeSet<u8>,
+    holders: BTreeSet<String>,
+    /// All operations.
+    operations: BTreeSet<u8>,
+}
+
+impl Seen {
+    fn of(streams: impl Iterator<Item = Vec<u8>>) -> Seen {
+        let mut seen = Seen::default();
+        for stream in streams {
+            let mut drill = Drill::start();
+            for operation in operations(&stream).0 {
+                let written = drill.perform(&operation).unwrap();
+                seen.add(&operation, &written, drill.page());
+            }
+        }
+        seen
+    }
+
+    fn add(&mut self, operation: &Operation, written: &[u8], page: &Page) {
+        self.operations.insert(operation.number);
+        match operation.number {
+            2 => self.answered(BY_VALUE, &operation.payload, written),
+            3 => self.answered(LENT, &operation.payload, written),
+            4 => self.run(&operation.payload, written),
+            5 => _ = self.written.insert(written[0]),
+            6 => self.looked(written, page),
+            7 => _ = self.raw.insert(written[0]),
+            _ => (),
+        }
+    }
+
+    fn answered(&mut self, manner: usize, request: &[u8], line: &[u8]) {
+        self.numbers[manner].insert(line[0]);
+        if line[0] == 0 {
+            self.accepted[manner].insert(request[0]);
+        }
+    }
+
+    fn run(&mut self, requests: &[u8], written: &[u8]) {
+        self.runs.insert(written[0]);
+        if written[0] == 0 {
+            for (request, line) in requests.chunks(16).zip(written[16..].chunks(16)) {
+                self.answered(IN_A_RUN, request, line);
+            }
+        }
+    }
+
+    fn looked(&mut self, written: &[u8], page: &Page) {
+        self.rules.insert((written[0], written[1]));
+        self.flags.insert(written[16]);
+        if written[0] == 0 {
+            self.holders.insert(name(&page.exc_state));
+            self.holders.insert(name(&page.loading_state));
+            self.holders.insert(name(&page.writeback_state));
+        }
+    }
+}
+
+/// The kind of a holder, and whether it has a bucket.
+fn name(holder: &impl std::fmt::Debug) -> String {
+    let text = format!("{holder:?}");
+    let kind = text.split([' ', ')']).next().unwrap().to_string();
+    if text.contains("bucket: None") {
+        kind + " without"
+    } else {
+        kind
+    }
+}
+
+fn set(numbers: impl IntoIterator<Item = u8>) -> BTreeSet<u8> {
+    numbers.into_iter().collect()
+}
+
+/// What one short stream has to have, and many streams of course.
+fn everything(seen: &Seen) {
+    for manner in [BY_VALUE, LENT] {
+        assert_eq!(seen.numbers[manner], set((0..=12).collect::<Vec<_>>()));
+    }
+    assert_eq!(
+        seen.numbers[IN_A_RUN],
+        set([0, 2, 3, 4, 5, 6, 7, 8, 9, 10, 11])
+    );
+    assert_eq!(seen.accepted[IN_A_RUN], set(1..=24));
+    assert_eq!(seen.written, set([0, 2, 3, 4, 14]));
+    assert_eq!(seen.raw, set([0, 255]));
+    let rules: BTreeSet<_> = (0..=8).map(|rule| (u8::from(rule > 0), rule)).collect();
+    assert_eq!(seen.rules, rules);
+    assert_eq!(seen.flags, set(0..=10));
+    assert_eq!(seen.operations, set(1..=7));
+    let holders = [
+        "None",
+        "Some(Claim",
+        "Some(Claim without",
+        "Some(Obtained",
+        "Some(Obtained without",
+        "Some(Pending",
+        "Some(PendingAwaitWriteback",
+        "Some(PendingCounted",
+        "Some(WritebackState",
+    ];
+    for holder in holders {
+        assert!(seen.holders.contains(holder), "{holder} {:?}", seen.holders);
+    }
+}
+
+#[test]
+fn the_first_stream_has_everything_that_is_cheap() {
+    let seen = Seen::of([short(1)].into_iter());
+    everything(&seen);
+    assert_eq!(seen.runs, set([0, 1, 12, 14]));
+    let single = &seen.accepted[BY_VALUE] | &seen.accepted[LENT];
+    assert_eq!(single, set(1..=24));
+}
+
+#[test]
+fn forty_streams_have_everything_in_every_manner() {
+    let mut seen = Seen::of((1..=40).map(short));
+    everything(&seen);
+    for manner in [BY_VALUE, LENT, IN_A_RUN] {
+        assert_eq!(seen.accepted[manner], set(1..=24));
+    }
+    seen = Seen::of([long(41)].into_iter());
+    everything(&seen);
+    assert_eq!(seen.runs, set([0, 1, 12, 13, 14]));
+    for manner in [BY_VALUE, LENT, IN_A_RUN] {
+        assert_eq!(seen.accepted[manner], set(1..=24));
+    }
+}
+
+/// The lengths of runs, of payloads and of buffers that are at a limit.
+#[test]
+fn a_long_stream_has_what_is_expensive() {
+    let operations = operations(&long(2)).0;
+    let has = |number: u8, length: usize| {
+        operations
+            .iter()
+            .any(|operation| operation.number == number && operation.payload.len() == length)
+    };
+    for length in [32_752, 32_767, 32_768, 32_769, 32_784, 65_535, 65_536] {
+        assert!(has(4, length), "{length}");
+    }
+    assert!(has(1, 65_536));
+    for number in [4, 5] {
+        let large: BTreeSet<u64> = (1..=10)
+            .flat_map(|seed| common::operations(&short(seed)).0)
+            .filter(|operation| operation.number == number)
+            .map(|operation| operation.a)
+            .collect();
+        for a in [65_535, 65_536, 65_537, 1 << 32, u64::MAX] {
+            assert!(large.contains(&a), "{number} {a}");
+        }
+    }
+}
+
+#[test]
+fn every_kind_of_end_occurs_and_nothing_after_it_is_answered() {
+    let mut ends = Vec::new();
+    for seed in 1..=40 {
+        let stream = short(seed);
+        let (operations, rest) = operations(&stream);
+        let mut drill = Drill::start();
+        let mut expected: Vec<u8> = operations
+            .iter()
+            .flat_map(|operation| drill.perform(operation).unwrap())
+            .collect();
+        if end_of(seed) == End::Clean {
+            assert!(rest.is_empty());
+        } else {
+            expected.extend([255, 0, 0, 0, 0, 0, 0, 0, 0, 0, 0, 0, 0, 0, 0, 0]);
+        }
+        assert_eq!(answers(&stream), expected, "seed {seed}");
+        fits(end_of(seed), rest);
+        ends.push(end_of(seed));
+    }
+    assert!(ENDS.iter().all(|end| ends.contains(end)));
+}
+
+/// Whether these last bytes are such an end.
+fn fits(end: End, rest: &[u8]) {
+    let length = rest.get(4..8).map(|bytes| bytes.to_vec());
+    match end {
+        End::Clean => assert!(rest.is_empty()),
+        End::CutHead => assert!((1..16).contains(&rest.len())),
+        End::CutPayload => assert!((16..32).contains(&rest.len()) && rest[4] == 16),
+        End::HeadByte(place) => assert_ne!(rest[place], 0),
+        End::LongPayload => assert_eq!(length, Some(vec![1, 0, 1, 0])),
+        End::LongestPayload => assert_eq!(length, Some(vec![255; 4])),
+        End::Unlisted(number) => assert_eq!(rest[0], number),
+    }
+    if !matches!(end, End::Clean | End::CutHead | End::CutPayload) {
+        let last = &rest[rest.len() - 32..];
+        assert_eq!(
+            [last[0], last[16]],
+            [1, 6],
+            "something that is not answered"
+        );
+    }
+}
+
+/// In a long stream the payload that is one byte too long is all there.
+#[test]
+fn a_long_stream_can_end_with_a_whole_payload() {
+    let stream = long(6);
+    assert_eq!(end_of(6), End::LongPayload);
+    let rest = operations(&stream).1;
+    assert_eq!(rest.len(), 16 + 65_537 + 32);
+}
+
+type Rule = fn(&Page) -> bool;
+
+const RULES: [Rule; 8] = [
+    storage_some_invariant,
+    exc_state_invariants,
+    writeback_state_invariants,
+    loading_state_invariants,
+    ref_count_invariant,
+    flag_invariant,
+    shared_storage_invariant,
+    limits,
+];
+
+#[test]
+fn the_pages_break_the_rules_that_they_say() {
+    let mut alone = BTreeSet::new();
+    let mut several = BTreeSet::new();
+    for (rule, image) in main_pages().into_iter().chain(more_pages()) {
+        let page = read_raw(&image.0).unwrap();
+        assert_eq!(lowest_broken_rule(&page).unwrap_or(0), rule, "{page:?}");
+        let broken = RULES.iter().filter(|holds| !holds(&page)).count();
+        if broken == 1 {
+            alone.insert(rule);
+        } else if broken > 1 {
+            several.insert(rule);
+        }
+    }
+    assert_eq!(alone, set(1..=8));
+    assert_eq!(several, set(1..=7));
+    let short: BTreeSet<u8> = main_pages().iter().map(|(rule, _)| *rule).collect();
+    assert_eq!(short, set(0..=8));
+    for payload in without_meaning() {
+        assert_eq!(read_raw(&payload), None);
+    }
+}
+
+fn asked(seed: u64) -> impl Iterator<Item = Asked> {
+    walks(&long(seed)).into_iter().flat_map(|walk| walk.asked)
+}
+
+#[test]
+fn every_page_has_its_raw_bytes() {
+    for Asked { after, .. } in (1..=3).flat_map(asked) {
+        assert_eq!(read_raw(&write_raw(&after)), Some(after));
+    }
+}
+
+// What holds all along the walks.
+
+#[test]
+fn a_refused_request_changes_nothing_and_soundness_stays() {
+    for asked in asked(5) {
+        if asked.answer.is_err() {
+            assert_eq!(asked.before, asked.after);
+        } else {
+            assert_eq!(lowest_broken_rule(&asked.after), None);
+        }
+    }
+}
+
+#[test]
+fn by_value_and_lent_agree() {
+    for asked in asked(7) {
+        if let Ok(request) = read_request(&asked.bytes) {
+            let outcome = step(asked.before, &request);
+            assert_eq!(outcome.answer, asked.answer);
+            assert_eq!(outcome.page, asked.after);
+        }
+    }
+}
+
+#[test]
+fn the_census_adds_up() {
+    for Asked { after, .. } in asked(8) {
+        let readers: u8 = census(&after).as_flattened().iter().map(|n| n.0).sum();
+        let listed = after.shared_state.listed().len();
+        let sound = lowest_broken_rule(&after).is_none();
+        assert_eq!(usize::from(readers), if sound { listed } else { 0 });
+    }
+}
+
+/// The past, kept from accepted requests alone.
+#[derive(Default)]
+struct History {
+    arrivals: [usize; 4],
+    departures: [usize; 4],
+    latest_13: Option<u8>,
+    last_put_in: StoredType,
+    out: bool,
+}
+
+impl History {
+    fn of(value: StoredType) -> History {
+        History {
+            last_put_in: value,
+            ..History::default()
+        }
+    }
+
+    fn accepted(&mut self, request: &Request, withdrawn: Option<StoredType>) {
+        let bucket = usize::from(request.bucket);
+        match request.step {
+            13 | 18 | 19 => self.arrivals[bucket] += 1,
+            20..=22 => self.departures[bucket] += 1,
+            17 => self.departures[usize::from(self.latest_13.unwrap())] += 1,
+            _ => (),
+        }
+        match request.step {
+            9 | 10 | 16 | 17 => {
+                assert!(self.out, "put in twice");
+                self.out = false;
+                self.last_put_in = request.value;
+            }
+            8 | 11 | 12 => {
+                assert!(!self.out, "taken out twice");
+                self.out = true;
+                assert_eq!(withdrawn, Some(self.last_put_in));
+            }
+            _ => assert_eq!(withdrawn, None),
+        }
+        if request.step == 13 {
+            self.latest_13 = Some(request.bucket);
+        }
+    }
+
+    fn fits(&self, page: &Page) {
+        for bucket in 0..4 {
+            assert_eq!(
+                usize::from(page.ref_counts[bucket].0) + self.departures[bucket],
+                self.arrivals[bucket]
+            );
+        }
+        assert_eq!(page.storage, (!self.out).then_some(self.last_put_in));
+    }
+}
+
+/// The history starts at a fresh page; a page from elsewhere has none.
+#[test]
+fn counts_are_arrivals_less_departures() {
+    for walk in (9..=12).flat_map(|seed| walks(&long(seed))) {
+        let Some(value) = walk.fresh else { continue };
+        let mut history = History::of(value);
+        for asked in walk.asked {
+            if let (Ok(request), Ok(withdrawn)) = (read_request(&asked.bytes), asked.answer) {
+                history.accepted(&request, withdrawn);
+            }
+            history.fits(&asked.after);
+        }
+    }
+}
