@@ -1,6 +1,6 @@
 -- What is accepted, the source's transition allows, and the limits leave room for it (⇒). One law takes a step's list of
 -- premises apart (`ran`); then each step has its constructor, line by line, in the source's order. Soundness is used wherever
--- the source takes something for granted (Reach.antt, MoveFacts.antt), and for `as nat`: a reader that is listed, and a loader
+-- the source takes something for granted (Reach.antt, Granted.antt), and for `as nat`: a reader that is listed, and a loader
 -- that has a bucket, is counted. Assumes nothing.
 use Prim.Native.Nat.{ℕ, _+_, _-_, _≤_, _<_}
 use mathlib.Core.Path.{_≡_, refl, ap, _∙_}

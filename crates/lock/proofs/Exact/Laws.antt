@@ -1,6 +1,6 @@
 -- What both halves of the theorem use: what it is to be accepted (`Accepts`); what step 7 expects, in the relation's words
 -- (`Expects`); the list taken apart at the first equal reader (`find-first`, `split`); the counts after one is set (`is-set`).
--- The flags are in MoveFlags.antt. Assumes nothing.
+-- The flags are in Flags.antt. Assumes nothing.
 use Prim.Native.Nat.{ℕ, _+_, _<_}
 use mathlib.Core.Path.{_≡_, refl, sym, ap, _∙_}
 use mathlib.Core.Logic.{_⊎_, inl, inr, _≢_}
