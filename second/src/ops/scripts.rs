@@ -1,4 +1,4 @@
-//! What is asked by script: document 01's worked cases, the ceilings, equal
+//! What is asked by script: the worked cases (RULES 10), the ceilings, equal
 //! readers, values of all 64 bits, and every step in every situation.
 
 use super::random::Random;
