@@ -120,7 +120,7 @@ module _ (start : Start) where
   countedSince (e ∷ past) = cond (accepted (13 ∷ []) e) true (cond (accepted fetching e) false (countedSince past))
 
   -- departures from b: accepted 20, 21, 22 naming b, and accepted 17 where a 13 was accepted since the latest accepted 11 or 12, and
-  -- the latest one named b
+  -- the latest 13 named b
   abbrev pub departures : ℕ → List Event → ℕ
   departures b [] = 0
   departures b (e ∷ past) =
