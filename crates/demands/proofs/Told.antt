@@ -68,16 +68,13 @@ put-in start s past told v e = go (lastWithdrew start past) (sym e ∙ told)
     go false f = cc
 
 -- ---- each step
--- a number that none of the history's words names
-abbrev unnamed : ℕ → Bool
-unnamed n =
-    not (among raising n)
-    && not (among leaving n)
-    && not (among (17 ∷ []) n)
-    && not (among (13 ∷ []) n)
-    && not (among puttingIn n)
-    && not (among handingOut n)
-    && not (among fetching n)
+-- no arrival and no departure
+abbrev even : ℕ → Bool
+even n = not (among raising n) && not (among leaving n) && not (among (17 ∷ []) n)
+
+-- nothing that is told of storage and of the loader
+abbrev calm : ℕ → Bool
+calm n = not (among (13 ∷ []) n) && not (among puttingIn n) && not (among handingOut n) && not (among fetching n)
 
 module _ (start : Start) (h : Head) (l : List Reader) (b : Bucket) (clean value : ℕ) (full : Bool) (past : List Event)
     (s : Sound h l) (inside : b .0 < buckets) (told : ToldOf start h past) where
@@ -89,6 +86,10 @@ module _ (start : Start) (h : Head) (l : List Reader) (b : Bucket) (clean value 
 
   abbrev Entry : ℕ → Type 0
   Entry n = Passes (stepNo n .premises) → ToldOf start (stepNo n .head) (record { request = ask n; answer = stepNo n .answer } ∷ past)
+
+  -- it is accepted, and nothing is handed out
+  abbrev took : ℕ → List Event
+  took n = record { request = ask n; answer = Answer.Accepted } ∷ past
 
   within : b .0 < length (h .«ref_counts»)
   within = omega (arith, s .four)
@@ -116,34 +117,42 @@ module _ (start : Start) (h : Head) (l : List Reader) (b : Bucket) (clean value 
   was-put = put-in start (h .storage) past (told .stored)
 
   -- no count changes, nothing is handed out
-  even : (x : ℕ) → numberAt (h .«ref_counts») x + (0 + 0 + departures start x past) ≡ start .counts x + (0 + arrivals x past)
-  even x = omega (arith, told .balance x)
+  same : (x : ℕ) → numberAt (h .«ref_counts») x + (0 + 0 + departures start x past) ≡ start .counts x + (0 + arrivals x past)
+  same x = omega (arith, told .balance x)
 
   none-out : {A : Type 0} → (⊥ → A) × HandedOut start past
   none-out = (λ t. absurd t, told .handed)
 
-  -- a step that the history's words don't name, and that leaves the counts, storage and the loader
-  calm : (n : ℕ) → T (unnamed n) → ToldOf start h (record { request = ask n; answer = Answer.Accepted } ∷ past)
-  calm n t =
+  -- a step that leaves storage and the loader: only its counts are told anew
+  recounts : (n : ℕ) (cs : List Count) → T (calm n)
+      → ((x : ℕ) → numberAt cs x + departures start x (took n) ≡ start .counts x + arrivals x (took n))
+      → Told start cs (h .storage) (h .«loading_state») (took n)
+  recounts n cs t balance =
       let u = simp and-iff at t in
-      let raises = to-false (among raising n) (u .0 .0 .0 .0 .0 .0) in
-      let leaves = to-false (among leaving n) (u .0 .0 .0 .0 .0 .1) in
-      let done = to-false (among (17 ∷ []) n) (u .0 .0 .0 .0 .1) in
-      let counts = to-false (among (13 ∷ []) n) (u .0 .0 .0 .1) in
+      let counts = to-false (among (13 ∷ []) n) (u .0 .0 .0) in
       let puts = to-false (among puttingIn n) (u .0 .0 .1) in
       let takes = to-false (among handingOut n) (u .0 .1) in
       let fetches = to-false (among fetching n) (u .1) in
       record {
-        balance = λ x. rw (raises, leaves, done) (even x);
+        balance = balance;
         stored = rw (takes, puts) (told .stored);
         counted = λ w. rw counts (told .counted w);
         since = λ w. rw (counts, fetches) (told .since w);
         handed = none-out;
       }
 
+  -- .. and one that leaves the counts too
+  stays : (n : ℕ) → T (even n) → T (calm n) → ToldOf start h (took n)
+  stays n t =
+      let u = simp and-iff at t in
+      let raises = to-false (among raising n) (u .0 .0) in
+      let leaves = to-false (among leaving n) (u .0 .1) in
+      let done = to-false (among (17 ∷ []) n) (u .1) in
+      λ w. recounts n (h .«ref_counts») w λ x. rw (raises, leaves, done) (same x)
+
   told8 : Entry 8
   told8 t = record {
-    balance = even;
+    balance = same;
     stored = refl;
     counted = told .counted;
     since = told .since;
@@ -151,14 +160,14 @@ module _ (start : Start) (h : Head) (l : List Reader) (b : Bucket) (clean value 
   }
 
   told9 : Entry 9
-  told9 t = record { balance = even; stored = refl; counted = told .counted; since = told .since; handed = none-out }
+  told9 t = record { balance = same; stored = refl; counted = told .counted; since = told .since; handed = none-out }
 
   told10 : Entry 10
-  told10 t = record { balance = even; stored = refl; counted = told .counted; since = told .since; handed = none-out }
+  told10 t = record { balance = same; stored = refl; counted = told .counted; since = told .since; handed = none-out }
 
   told11 : Entry 11
   told11 t = record {
-    balance = even;
+    balance = same;
     stored = refl;
     counted = λ w. absurd w;
     since = λ w. refl;
@@ -167,7 +176,7 @@ module _ (start : Start) (h : Head) (l : List Reader) (b : Bucket) (clean value 
 
   told12 : Entry 12
   told12 t = record {
-    balance = even;
+    balance = same;
     stored = refl;
     counted = λ w. absurd w;
     since = λ w. refl;
@@ -185,7 +194,7 @@ module _ (start : Start) (h : Head) (l : List Reader) (b : Bucket) (clean value 
 
   told14 : Entry 14
   told14 t = record {
-    balance = even;
+    balance = same;
     stored = told .stored;
     counted = told .counted;
     since = λ w. told .since (rw (is-counted (h .«loading_state») (t .0)) tt);
@@ -196,7 +205,7 @@ module _ (start : Start) (h : Head) (l : List Reader) (b : Bucket) (clean value 
   told15 t =
       let waits = is-waiting (h .«loading_state») (t .0) in
       record {
-        balance = even;
+        balance = same;
         stored = told .stored;
         counted = λ w. absurd w;
         since = λ w. rw waits at (told .since (rw waits tt));
@@ -204,7 +213,7 @@ module _ (start : Start) (h : Head) (l : List Reader) (b : Bucket) (clean value 
       }
 
   told16 : Entry 16
-  told16 t = record { balance = even; stored = refl; counted = λ w. absurd w; since = λ w. absurd w; handed = none-out }
+  told16 t = record { balance = same; stored = refl; counted = λ w. absurd w; since = λ w. absurd w; handed = none-out }
 
   -- the loader's bucket, if it has one, is the one that the latest 13 named, and it is counted there
   left-balance : (m : MaybeBucket) → loadingBucket (h .«loading_state») ≡ m → (T (hasBucket m) → lastCounted start past ≡ m)
@@ -232,60 +241,30 @@ module _ (start : Start) (h : Head) (l : List Reader) (b : Bucket) (clean value 
       }
 
   told18 : Entry 18
-  told18 t = record {
-    balance = λ x. omega (arith, raised-balance x);
-    stored = told .stored;
-    counted = told .counted;
-    since = told .since;
-    handed = none-out;
-  }
+  told18 t = recounts 18 _ tt λ x. omega (arith, raised-balance x)
 
   told19 : Entry 19
-  told19 t = record {
-    balance = λ x. omega (arith, raised-balance x);
-    stored = told .stored;
-    counted = told .counted;
-    since = told .since;
-    handed = none-out;
-  }
+  told19 t = recounts 19 _ tt λ x. omega (arith, raised-balance x)
 
   told20 : Entry 20
   unfolding lookFor soughtOf
-  told20 t = record {
-    balance = λ x. omega (arith, lowered-balance (found-counted Phase.Pending (t .0)) x);
-    stored = told .stored;
-    counted = told .counted;
-    since = told .since;
-    handed = none-out;
-  }
+  told20 t = recounts 20 _ tt λ x. omega (arith, lowered-balance (found-counted Phase.Pending (t .0)) x)
 
   told21 : Entry 21
   unfolding lookFor soughtOf
-  told21 t = record {
-    balance = λ x. omega (arith, lowered-balance (found-counted Phase.Pending2 (t .0)) x);
-    stored = told .stored;
-    counted = told .counted;
-    since = told .since;
-    handed = none-out;
-  }
+  told21 t = recounts 21 _ tt λ x. omega (arith, lowered-balance (found-counted Phase.Pending2 (t .0)) x)
 
   told22 : Entry 22
   unfolding lookFor soughtOf
-  told22 t = record {
-    balance = λ x. omega (arith, lowered-balance (found-counted (Phase.Obtained value) (t .0)) x);
-    stored = told .stored;
-    counted = told .counted;
-    since = told .since;
-    handed = none-out;
-  }
+  told22 t = recounts 22 _ tt λ x. omega (arith, lowered-balance (found-counted (Phase.Obtained value) (t .0)) x)
 
   entries : Below pastLast Entry
   entries =
       (λ t. absurd (t .0))
-      & (λ t. calm 1 tt) & (λ t. calm 2 tt) & (λ t. calm 3 tt) & (λ t. calm 4 tt) & (λ t. calm 5 tt)
-      & (λ t. calm 6 tt) & (λ t. calm 7 tt) & told8
+      & (λ t. stays 1 tt tt) & (λ t. stays 2 tt tt) & (λ t. stays 3 tt tt) & (λ t. stays 4 tt tt) & (λ t. stays 5 tt tt)
+      & (λ t. stays 6 tt tt) & (λ t. stays 7 tt tt) & told8
       & told9 & told10 & told11 & told12 & told13 & told14 & told15 & told16
-      & told17 & told18 & told19 & told20 & told21 & told22 & (λ t. calm 23 tt) & (λ t. calm 24 tt)
+      & told17 & told18 & told19 & told20 & told21 & told22 & (λ t. stays 23 tt tt) & (λ t. stays 24 tt tt)
       & tt
 
 -- ---- one request
