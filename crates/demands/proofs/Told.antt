@@ -68,11 +68,11 @@ put-in start s past told v e = go (lastWithdrew start past) (sym e ∙ told)
     go false f = cc
 
 -- ---- each step
--- no arrival and no departure
+-- a number that is no arrival and no departure
 abbrev even : ℕ → Bool
 even n = not (among raising n) && not (among leaving n) && not (among (17 ∷ []) n)
 
--- nothing that is told of storage and of the loader
+-- one that none of the words on storage and on the loader names
 abbrev calm : ℕ → Bool
 calm n = not (among (13 ∷ []) n) && not (among puttingIn n) && not (among handingOut n) && not (among fetching n)
 
