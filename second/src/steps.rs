@@ -315,7 +315,7 @@ fn obtain_loading_no_refcount(page: &mut Page) -> Answer {
 }
 
 fn deposit_loading_to_shared(page: &mut Page, value: StoredType) -> Answer {
-    let bucket = loader_bucket(page)?;
+    let bucket = loader_bucket(page)?.ok_or(Refusal::HolderBucket)?;
     list_room(page)?;
     page.loading_state = None;
     page.flag = Flag::Available;
@@ -325,13 +325,16 @@ fn deposit_loading_to_shared(page: &mut Page, value: StoredType) -> Answer {
     Ok(None)
 }
 
-/// Changed from the source: the loader's own reference is given back.
+/// Changed from the source: a loader without a bucket may finish too, and one
+/// with a bucket gives its own reference back.
 fn deposit_loading_to_done(page: &mut Page, value: StoredType) -> Answer {
     let bucket = loader_bucket(page)?;
     page.loading_state = None;
     page.flag = Flag::Available;
     page.storage = Some(value);
-    count_down(page, bucket);
+    if let Some(bucket) = bucket {
+        count_down(page, bucket);
+    }
     Ok(None)
 }
 
@@ -411,6 +414,7 @@ fn find(page: &Page, reader: SharedState) -> Result<usize, Refusal> {
         .ok_or(Refusal::NoHolder)
 }
 
+/// The bucket of an editor that is Obtained, which must have one.
 fn editor_bucket(page: &Page) -> Result<BucketId, Refusal> {
     match page.exc_state {
         Some(ExcState::Obtained { bucket, .. }) => bucket.ok_or(Refusal::HolderBucket),
@@ -418,9 +422,10 @@ fn editor_bucket(page: &Page) -> Result<BucketId, Refusal> {
     }
 }
 
-fn loader_bucket(page: &Page) -> Result<BucketId, Refusal> {
+/// The bucket of a loader that is Obtained, if it has one.
+fn loader_bucket(page: &Page) -> Result<Option<BucketId>, Refusal> {
     match page.loading_state {
-        Some(LoadingState::Obtained { bucket }) => bucket.ok_or(Refusal::HolderBucket),
+        Some(LoadingState::Obtained { bucket }) => Ok(bucket),
         _ => Err(Refusal::NoHolder),
     }
 }

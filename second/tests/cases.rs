@@ -151,13 +151,31 @@ fn case_d() -> Page {
 
 #[test]
 fn a() {
+    use Flag::{Available, Loading, LoadingExcLock};
     let none = [0, 0, 0, 0];
-    let no_bucket = Err(Refusal::HolderBucket);
     play(
         fresh(0),
         &[
-            line(plain(12), Ok(Some(0)), Flag::Loading, none, None),
-            line(with(17, 5), no_bucket, Flag::Loading, none, None),
+            line(plain(12), Ok(Some(0)), Loading, none, None),
+            line(with(17, 5), Ok(None), Available, none, Some(5)),
+        ],
+    );
+    for (bucket, reader) in [(1, [0, 1, 0, 0]), (0, [1, 0, 0, 0])] {
+        play(
+            fresh(0),
+            &[
+                line(plain(12), Ok(Some(0)), Loading, none, None),
+                line(at(19, bucket), Ok(None), Loading, reader, None),
+                line(with(17, 5), Ok(None), Available, reader, Some(5)),
+            ],
+        );
+    }
+    play(
+        fresh(0),
+        &[
+            line(plain(11), Ok(Some(0)), LoadingExcLock, none, None),
+            line(plain(15), Ok(None), Loading, none, None),
+            line(with(17, 7), Ok(None), Available, none, Some(7)),
         ],
     );
 }

@@ -261,9 +261,9 @@ fn operations_2_and_3_take_one_step() {
         let expected = [
             line(0),
             vec![0, 1, 0, 0, 0, 0, 0, 0, 8, 7, 6, 5, 4, 3, 2, 1],
-            line(7),
             line(0),
-            vec![1, 0, 0, 0, 0, 0, 0, 0, 0, 0, 0, 0, 0, 0, 0, 0],
+            line(0),
+            vec![3, 1, 0, 0, 0, 0, 0, 0, 5, 0, 0, 0, 0, 0, 0, 0],
         ];
         assert_eq!(answers(&stream), expected.concat());
     }
@@ -370,21 +370,23 @@ fn a_run_answers_each_request_and_leaves_the_rest_of_its_buffer() {
         ask(12, 0, 0, 0),
         ask(25, 0, 0, 0),
         ask(19, 2, 0, 0),
+        ask(16, 0, 0, 5),
         ask(17, 0, 0, 5),
     ];
     let mut withdrawn = line(0);
     withdrawn[1] = 1;
     for more in [0, 1, 16, 100] {
-        let stream = [op(4, 64 + more, &requests.concat()), look()];
+        let stream = [op(4, 80 + more, &requests.concat()), look()];
         let expected = [
             line(0),
             withdrawn.clone(),
             line(2),
             line(0),
             line(7),
+            line(0),
             vec![170; more as usize],
             vec![0, 0, 0, 0, 0, 0, 0, 0, 0, 0, 1, 0, 0, 0, 0, 0],
-            vec![1, 0, 1, 0, 0, 0, 1, 0, 0, 0, 0, 0, 0, 0, 0, 0],
+            vec![3, 1, 1, 0, 0, 0, 1, 0, 5, 0, 0, 0, 0, 0, 0, 0],
             vec![1, 2, 0, 0, 0, 0, 0, 0, 0, 0, 0, 0, 0, 0, 0, 0],
         ];
         assert_eq!(answers(&stream), expected.concat());
@@ -615,6 +617,36 @@ fn the_holders_of_a_raw_page_act() {
     expected.extend([3, 1, 1, 0, 0, 0, 1, 0, 9, 0, 0, 0, 0, 0, 0, 0]);
     expected.extend([3, 2, 0, 0, 0, 0, 0, 0, 9, 0, 0, 0, 0, 0, 0, 0]);
     assert_eq!(output(&stream), expected);
+}
+
+/// A loader without a bucket beside readers at bucket 0, of both phases, and at
+/// bucket 3. It leaves, and they stay counted.
+#[test]
+fn a_loader_without_a_bucket_leaves_the_counts() {
+    let readers = [(2, 3), (16, 2), (19, 1), (64, 1), (80, 2), (96, 1), (97, 3)];
+    let loader = [(0, 1), (1, 0), (8, 3), (9, 255)];
+    let page = raw(&[&readers[..], &loader].concat());
+    let stream = [
+        op(7, 0, &page),
+        op(2, 0, &ask(16, 0, 0, 9)),
+        op(3, 0, &ask(17, 0, 0, 9)),
+        look(),
+        op(2, 0, &ask(17, 0, 0, 9)),
+        op(3, 0, &ask(24, 0, 0, 0)),
+    ];
+    let expected = [
+        line(0),
+        line(7),
+        line(0),
+        vec![0, 0, 0, 0, 1, 1, 0, 0, 0, 0, 0, 0, 0, 1, 0, 0],
+        vec![3, 1, 3, 0, 2, 0, 0, 1, 9, 0, 0, 0, 0, 0, 0, 0],
+        vec![1, 0, 0, 0, 0, 0, 0, 0, 0, 0, 0, 0, 0, 0, 0, 0],
+        vec![2, 0, 0, 0, 0, 0, 0, 0, 0, 0, 0, 0, 0, 0, 0, 0],
+        vec![1, 3, 0, 0, 0, 0, 0, 0, 0, 0, 0, 0, 0, 0, 0, 0],
+        line(6),
+        line(0),
+    ];
+    assert_eq!(answers(&stream), expected.concat());
 }
 
 /// The page of these bytes (place, byte) over a fresh one of 0.

@@ -6,15 +6,15 @@ use std::collections::BTreeSet;
 
 use common::{operations, walks, Asked};
 use second::drill::{program, Drill, Operation};
-use second::kinds::{Request, StoredType};
+use second::kinds::{LoadingState, Refusal, Request, StoredType};
 use second::ops::ends::{end_of, End, ENDS};
 use second::ops::pages::{main_pages, more_pages, without_meaning};
 use second::ops::{stream, Plan, REQUESTS};
 use second::raw::{read_raw, write_raw};
 use second::record::{
     census, exc_state_invariants, flag_invariant, limits, loading_state_invariants,
-    lowest_broken_rule, ref_count_invariant, shared_storage_invariant, storage_some_invariant,
-    writeback_state_invariants, Page,
+    lowest_broken_rule, ref_count_invariant, shared_storage_invariant, sound,
+    storage_some_invariant, writeback_state_invariants, Page,
 };
 use second::steps::step;
 use second::wire::read_request;
@@ -45,7 +45,7 @@ fn a_stream_is_made_the_same_again() {
 #[test]
 fn the_first_stream_is_small() {
     let stream = short(1);
-    assert!((80_000..=120_000).contains(&stream.len()));
+    assert!((80_000..=125_000).contains(&stream.len()));
     assert!(answers(&stream).len() <= 250_000);
 }
 
@@ -209,6 +209,79 @@ fn forty_streams_have_everything_in_every_manner() {
     }
 }
 
+/// The step by which a loader without a bucket took the page, 12 or 15; none
+/// where it came with a raw page.
+type Way = Option<u8>;
+
+const WAYS: [Way; 3] = [None, Some(12), Some(15)];
+
+const UNCOUNTED: Option<LoadingState> = Some(LoadingState::Obtained { bucket: None });
+
+/// What a stream has of loads without a bucket.
+#[derive(Default)]
+struct Prefetches {
+    /// Where 16 was refused.
+    refused: BTreeSet<Way>,
+    /// Where 17 was accepted: the phase of each reader beside, and whether it
+    /// stands at bucket 0.
+    left: BTreeSet<(Way, usize, bool)>,
+    /// The steps that were accepted after 17.
+    after: BTreeSet<u8>,
+}
+
+impl Prefetches {
+    fn of(stream: &[u8]) -> Prefetches {
+        let mut seen = Prefetches::default();
+        for walk in walks(stream) {
+            seen.add(&walk.asked);
+        }
+        seen
+    }
+
+    fn add(&mut self, walk: &[Asked]) {
+        let mut way = None;
+        let mut ended = false;
+        for asked in walk.iter().filter(|asked| asked.bytes.len() == 16) {
+            let number = asked.bytes[0];
+            let uncounted = asked.before.loading_state == UNCOUNTED;
+            match (number, &asked.answer) {
+                (16, Err(Refusal::HolderBucket)) => _ = self.refused.insert(way),
+                (17, Ok(_)) if uncounted => {
+                    ended = true;
+                    self.leaves(way, &asked.before);
+                }
+                (12 | 15, Ok(_)) => way = Some(number),
+                (_, Ok(_)) if ended => _ = self.after.insert(number),
+                _ => (),
+            }
+        }
+    }
+
+    fn leaves(&mut self, way: Way, page: &Page) {
+        for reader in page.shared_state.listed() {
+            let first = reader.bucket().0 == 0;
+            self.left.insert((way, reader.phase(), first));
+        }
+    }
+}
+
+#[test]
+fn every_stream_has_loads_without_a_bucket() {
+    for seed in 1..=40 {
+        let seen = Prefetches::of(&short(seed));
+        for way in WAYS {
+            assert!(seen.refused.contains(&way), "seed {seed}: {way:?}");
+            for reader in [(0, true), (0, false), (1, true), (1, false)] {
+                let left = (way, reader.0, reader.1);
+                assert!(seen.left.contains(&left), "seed {seed}: {left:?}");
+            }
+        }
+        for number in [1, 2, 3, 4, 23, 24] {
+            assert!(seen.after.contains(&number), "seed {seed}: {number}");
+        }
+    }
+}
+
 /// The lengths of runs, of payloads and of buffers that are at a limit.
 #[test]
 fn a_long_stream_has_what_is_expensive() {
@@ -369,21 +442,31 @@ fn the_census_adds_up() {
     }
 }
 
-/// The past, kept from accepted requests alone.
-#[derive(Default)]
+/// The past, kept from accepted requests alone (RULES 9).
 struct History {
+    /// The counts that the page started with.
+    counts: [usize; 4],
     arrivals: [usize; 4],
     departures: [usize; 4],
-    latest_13: Option<u8>,
-    last_put_in: StoredType,
+    /// The bucket that the latest 13 named, if one was accepted since the
+    /// latest 11 or 12.
+    latest_13: Option<usize>,
+    /// The value last put in, where it is known.
+    last_put_in: Option<StoredType>,
     out: bool,
 }
 
 impl History {
-    fn of(value: StoredType) -> History {
+    /// What is taken to have happened just before a sound page.
+    fn before(page: &Page) -> History {
+        let loader = page.loading_state.and_then(LoadingState::bucket);
         History {
-            last_put_in: value,
-            ..History::default()
+            counts: page.ref_counts.map(|count| usize::from(count.0)),
+            arrivals: [0; 4],
+            departures: [0; 4],
+            latest_13: loader.map(|bucket| bucket.index()),
+            last_put_in: page.storage,
+            out: page.storage.is_none(),
         }
     }
 
@@ -392,24 +475,31 @@ impl History {
         match request.step {
             13 | 18 | 19 => self.arrivals[bucket] += 1,
             20..=22 => self.departures[bucket] += 1,
-            17 => self.departures[usize::from(self.latest_13.unwrap())] += 1,
+            17 => {
+                if let Some(bucket) = self.latest_13 {
+                    self.departures[bucket] += 1;
+                }
+            }
+            _ => (),
+        }
+        match request.step {
+            11 | 12 => self.latest_13 = None,
+            13 => self.latest_13 = Some(bucket),
             _ => (),
         }
         match request.step {
             9 | 10 | 16 | 17 => {
                 assert!(self.out, "put in twice");
                 self.out = false;
-                self.last_put_in = request.value;
+                self.last_put_in = Some(request.value);
             }
             8 | 11 | 12 => {
                 assert!(!self.out, "taken out twice");
                 self.out = true;
-                assert_eq!(withdrawn, Some(self.last_put_in));
+                assert!(withdrawn.is_some());
+                assert_eq!(withdrawn, self.last_put_in);
             }
             _ => assert_eq!(withdrawn, None),
-        }
-        if request.step == 13 {
-            self.latest_13 = Some(request.bucket);
         }
     }
 
@@ -417,19 +507,19 @@ impl History {
         for bucket in 0..4 {
             assert_eq!(
                 usize::from(page.ref_counts[bucket].0) + self.departures[bucket],
-                self.arrivals[bucket]
+                self.counts[bucket] + self.arrivals[bucket]
             );
         }
-        assert_eq!(page.storage, (!self.out).then_some(self.last_put_in));
+        assert_eq!(page.storage, self.last_put_in.filter(|_| !self.out));
     }
 }
 
-/// The history starts at a fresh page; a page from elsewhere has none.
+/// From every sound page, fresh or not.
 #[test]
 fn counts_are_arrivals_less_departures() {
-    for walk in (9..=12).flat_map(|seed| walks(&long(seed))) {
-        let Some(value) = walk.fresh else { continue };
-        let mut history = History::of(value);
+    let walks = (9..=12).flat_map(|seed| walks(&long(seed)));
+    for walk in walks.filter(|walk| sound(&walk.start)) {
+        let mut history = History::before(&walk.start);
         for asked in walk.asked {
             if let (Ok(request), Ok(withdrawn)) = (read_request(&asked.bytes), asked.answer) {
                 history.accepted(&request, withdrawn);

@@ -4,8 +4,8 @@ mod common;
 
 use common::{walks, Asked};
 use second::kinds::{
-    answer_number, Answer, BucketId, ExcState, Flag, LoadingState, Refusal, Request, SharedState,
-    StoredType, CAPACITY, CEILING,
+    answer_number, Answer, BucketId, Count, ExcState, Flag, LoadingState, Refusal, Request,
+    SharedState, StoredType, CAPACITY, CEILING,
 };
 use second::ops::{stream, Plan};
 use second::record::{fresh, sound, Page};
@@ -68,6 +68,14 @@ fn editor() -> Page {
 /// The same editor, counted at bucket 1.
 fn counted_editor() -> Page {
     step(editor(), &Request::new(18, 1, 0, 0)).page
+}
+
+/// A loader that has the page and no bucket, by either way.
+fn prefetches() -> [Page; 2] {
+    [
+        after(&[(12, 0, 0, 0)]),
+        after(&[(11, 0, 0, 0), (15, 0, 0, 0)]),
+    ]
 }
 
 #[test]
@@ -157,10 +165,15 @@ fn number_6() {
     assert_eq!(refusal(&reading, 21, 2, 0, 0), missing);
     let claimed_beside_writeback = loaded_then(&[(1, 0, 0, 0), (3, 0, 0, 0)]);
     assert_eq!(refusal(&claimed_beside_writeback, 6, 0, 0, 0), missing);
+    let pending = after(&[(11, 0, 0, 0)]);
+    for number in [14, 16, 17] {
+        assert_eq!(refusal(&pending, number, 0, 0, 0), missing);
+    }
     let counted = after(&[(11, 0, 0, 0), (13, 3, 0, 0)]);
     for number in [13, 15, 16, 17] {
         assert_eq!(refusal(&counted, number, 0, 0, 0), missing);
     }
+    assert_eq!(refusal(&loaded(), 17, 0, 0, 7), missing);
 }
 
 #[test]
@@ -169,12 +182,8 @@ fn number_7() {
     assert_eq!(refusal(&editor(), 9, 0, 0, 1), bucket);
     assert_eq!(refusal(&editor(), 10, 0, 0, 1), bucket);
     assert_eq!(refusal(&counted_editor(), 18, 0, 0, 0), bucket);
-    for loading in [
-        after(&[(12, 0, 0, 0)]),
-        after(&[(11, 0, 0, 0), (15, 0, 0, 0)]),
-    ] {
+    for loading in prefetches() {
         assert_eq!(refusal(&loading, 16, 0, 0, 1), bucket);
-        assert_eq!(refusal(&loading, 17, 0, 0, 1), bucket);
     }
 }
 
@@ -247,6 +256,9 @@ fn the_lower_of_two_is_given() {
     );
     let full_list = crowded(editor(), [16; 4]);
     assert_eq!(refusal(&full_list, 9, 0, 0, 0), Err(Refusal::HolderBucket));
+    for full_list in prefetches().map(|page| crowded(page, [16; 4])) {
+        assert_eq!(refusal(&full_list, 16, 0, 0, 0), Err(Refusal::HolderBucket));
+    }
     let full_list = crowded(fresh(0), [31, 31, 2, 0]);
     assert_eq!(refusal(&full_list, 16, 0, 0, 0), Err(Refusal::NoHolder));
     assert_eq!(refusal(&full_list, 19, 0, 0, 0), Err(Refusal::CountFull));
@@ -277,6 +289,37 @@ fn the_first_equal_reader_is_the_one() {
         page.shared_state.listed(),
         [pending2(1), pending(0), pending(1)]
     );
+}
+
+/// Step 17 puts the value in and takes the loader away. The readers stay as
+/// they are and stay counted, whether or not the loader had a bucket.
+#[test]
+fn a_loader_leaves_and_takes_its_own_reference() {
+    let loading = |bucket| after(&[(11, 0, 0, 0), (13, bucket, 0, 0), (14, 0, 0, 0)]);
+    for page in (0..4).map(loading).chain(prefetches()) {
+        for readers in [[0; 4], [3, 0, 0, 0], [1, 2, 0, 5], [30, 30, 2, 2]] {
+            let before = checked(crowded(page.clone(), readers));
+            let expected = Page {
+                storage: Some(9),
+                flag: Flag::Available,
+                ref_counts: readers.map(Count),
+                loading_state: None,
+                ..before.clone()
+            };
+            let outcome = step(before, &Request::new(17, 0, 0, 9));
+            assert_eq!(outcome.answer, Ok(None));
+            assert_eq!(outcome.page, expected);
+            assert!(sound(&outcome.page));
+        }
+    }
+}
+
+/// The same record, where at each bucket one reader passes its first check.
+fn checked(mut page: Page) -> Page {
+    for bucket in 0..4 {
+        page = step(page, &Request::new(23, bucket, 0, 0)).page;
+    }
+    page
 }
 
 /// Whether the refusal of this number (2 to 11) applies, told from the table of
@@ -366,7 +409,7 @@ fn holder(page: &Page, request: &Request) -> bool {
 fn wrong_bucket(page: &Page, asked: u8) -> bool {
     match asked {
         9 | 10 => page.exc_state.and_then(ExcState::bucket).is_none(),
-        16 | 17 => page.loading_state.and_then(LoadingState::bucket).is_none(),
+        16 => page.loading_state.and_then(LoadingState::bucket).is_none(),
         18 => page.exc_state.and_then(ExcState::bucket).is_some(),
         _ => false,
     }

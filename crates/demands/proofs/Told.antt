@@ -1,4 +1,4 @@
--- What the history tells of a page, step by step: counts, storage, the loader's bucket, and the values handed out. Each step
+-- What the history tells of a page, step by step: counts, storage, the loader and its bucket, and the values handed out. Each step
 -- keeps it (one entry for each number), a refusal changes neither page nor history's sums, so it holds after any requests.
 -- Assumes nothing.
 use Prim.Native.Nat.{ℕ, _+_, _≤_, _<_}
@@ -13,15 +13,16 @@ use Rattle.laws.specs.Lists.{among}
 use Rattle.laws.proofs.Tests.{to-true, to-false, and-iff}
 use Rattle.laws.proofs.Pick.{Below, _&_, pick}
 use Rattle.kinds.specs.declared.{Bucket.Bucket, Count.Count, Storage.Storage, MaybeBucket.MaybeBucket, Reader.Reader}
-use Rattle.kinds.specs.declared.{Phase.Phase}
+use Rattle.kinds.specs.declared.{Phase.Phase, LoadingState.LoadingState}
 use Rattle.kinds.specs.Limits.{buckets, capacity}
 use Rattle.readers.specs.declared.Found.{Found}
 use Rattle.readers.specs.Listed.{live, findIn}
 use Rattle.readers.proofs.First.{found}
 use Rattle.page_record.specs.declared.{Head.Head, Page.Page}
-use Rattle.page_record.specs.Holders.{isStored, hasBucket, validBucket, bucketOf, loadingBucket, valueOf, excValue}
+use Rattle.page_record.specs.Holders.{isStored, hasBucket, validBucket, noLoad, loadingBucket, valueOf, excValue}
 use Rattle.page_record.specs.Pages.{numberAt, headOf}
 use Rattle.page_record.specs.References.{refAt}
+use Rattle.page_record.proofs.Inversions.{is-waiting, is-counted, is-loading}
 use Rattle.soundness.specs.Soundness.{soundOf}
 use Rattle.soundness.proofs.Facts.{Sound}
 use Rattle.soundness.proofs.Tested.{facts}
@@ -32,27 +33,29 @@ use Rattle.requests.specs.Requests.{formal, judged, pastLast}
 use Rattle.requests.proofs.Verdicts.{passed}
 use Rattle.requests.proofs.Reasons.{refusal-positive}
 use Rattle.requests.proofs.Formed.{judged-bucket, step-below}
-use Rattle.heads.specs.Setters.{raise, lower}
+use Rattle.heads.specs.Setters.{raise, lower, lowerIf}
 use Rattle.heads.specs.Decisions.{Step, settled, isFound, reader}
 use Rattle.steps.specs.Decide.{stepAt, soughtOf, decideOf}
-use Rattle.lock.specs.Words.{raising, leaving, puttingIn, handingOut}
+use Rattle.lock.specs.Words.{raising, leaving, puttingIn, handingOut, fetching}
 use Rattle.lock.specs.Step.{lookFor, stepped, stepOf}
 use Rattle.lock.proofs.Keeps.Counts.{number-raise, number-lower}
 use Rattle.lock.proofs.Exact.Granted.{granted}
 use Rattle.lock.proofs.Keeps.{step-keeps}
 use Rattle.demands.specs.History.{Event, Start, startOf, event, after, history, arrivals, departures, lastPut}
-use Rattle.demands.specs.History.{lastWithdrew, lastCounted, HandedOut}
+use Rattle.demands.specs.History.{lastWithdrew, lastCounted, countedSince, HandedOut}
 
 -- ---- what is told
--- of the counts, of storage and of the loader's bucket
-pub record Told (start : Start) (cs : List Count) (s : Storage) (loader : MaybeBucket) (past : List Event) : Type 0 where
+-- of the counts, of storage and of the loader: where it has a bucket, the latest 13 named it, and since the latest 11 or 12; where it
+-- has none, there was no 13 since
+pub record Told (start : Start) (cs : List Count) (s : Storage) (l : LoadingState) (past : List Event) : Type 0 where
   pub balance : (b : ℕ) → numberAt cs b + departures start b past ≡ start .counts b + arrivals b past
   pub stored : s ≡ cond (lastWithdrew start past) Storage.Out (Storage.In (lastPut start past))
-  pub counted : T (hasBucket loader) → lastCounted start past ≡ loader
+  pub counted : T (hasBucket (loadingBucket l)) → lastCounted start past ≡ loadingBucket l
+  pub since : T (not (noLoad l)) → countedSince start past ≡ hasBucket (loadingBucket l)
   pub handed : HandedOut start past
 
 abbrev pub ToldOf : Start → Head → List Event → Type 0
-ToldOf start h past = Told start (h .«ref_counts») (h .storage) (loadingBucket (h .«loading_state»)) past
+ToldOf start h past = Told start (h .«ref_counts») (h .storage) (h .«loading_state») past
 
 -- what is stored was last put in
 pub put-in : (start : Start) (s : Storage) (past : List Event)
@@ -65,15 +68,13 @@ put-in start s past told v e = go (lastWithdrew start past) (sym e ∙ told)
     go false f = cc
 
 -- ---- each step
--- a number that none of the history's words names
-abbrev unnamed : ℕ → Bool
-unnamed n =
-    not (among raising n)
-    && not (among leaving n)
-    && not (among (17 ∷ []) n)
-    && not (among (13 ∷ []) n)
-    && not (among puttingIn n)
-    && not (among handingOut n)
+-- a number that is no arrival and no departure
+abbrev even : ℕ → Bool
+even n = not (among raising n) && not (among leaving n) && not (among (17 ∷ []) n)
+
+-- one that none of the words on storage and on the loader names
+abbrev calm : ℕ → Bool
+calm n = not (among (13 ∷ []) n) && not (among puttingIn n) && not (among handingOut n) && not (among fetching n)
 
 module _ (start : Start) (h : Head) (l : List Reader) (b : Bucket) (clean value : ℕ) (full : Bool) (past : List Event)
     (s : Sound h l) (inside : b .0 < buckets) (told : ToldOf start h past) where
@@ -85,6 +86,10 @@ module _ (start : Start) (h : Head) (l : List Reader) (b : Bucket) (clean value 
 
   abbrev Entry : ℕ → Type 0
   Entry n = Passes (stepNo n .premises) → ToldOf start (stepNo n .head) (record { request = ask n; answer = stepNo n .answer } ∷ past)
+
+  -- it is accepted, and nothing is handed out
+  abbrev took : ℕ → List Event
+  took n = record { request = ask n; answer = Answer.Accepted } ∷ past
 
   within : b .0 < length (h .«ref_counts»)
   within = omega (arith, s .four)
@@ -112,56 +117,69 @@ module _ (start : Start) (h : Head) (l : List Reader) (b : Bucket) (clean value 
   was-put = put-in start (h .storage) past (told .stored)
 
   -- no count changes, nothing is handed out
-  even : (x : ℕ) → numberAt (h .«ref_counts») x + (0 + 0 + departures start x past) ≡ start .counts x + (0 + arrivals x past)
-  even x = omega (arith, told .balance x)
+  same : (x : ℕ) → numberAt (h .«ref_counts») x + (0 + 0 + departures start x past) ≡ start .counts x + (0 + arrivals x past)
+  same x = omega (arith, told .balance x)
 
   none-out : {A : Type 0} → (⊥ → A) × HandedOut start past
   none-out = (λ t. absurd t, told .handed)
 
-  -- a step that the history's words don't name, and that leaves the counts, storage and the loader's bucket
-  calm : (n : ℕ) → T (unnamed n) → ToldOf start h (record { request = ask n; answer = Answer.Accepted } ∷ past)
-  calm n t =
+  -- a step that leaves storage and the loader: only its counts are told anew
+  recounts : (n : ℕ) (cs : List Count) → T (calm n)
+      → ((x : ℕ) → numberAt cs x + departures start x (took n) ≡ start .counts x + arrivals x (took n))
+      → Told start cs (h .storage) (h .«loading_state») (took n)
+  recounts n cs t balance =
       let u = simp and-iff at t in
-      let raises = to-false (among raising n) (u .0 .0 .0 .0 .0) in
-      let leaves = to-false (among leaving n) (u .0 .0 .0 .0 .1) in
-      let done = to-false (among (17 ∷ []) n) (u .0 .0 .0 .1) in
-      let counts = to-false (among (13 ∷ []) n) (u .0 .0 .1) in
-      let puts = to-false (among puttingIn n) (u .0 .1) in
-      let takes = to-false (among handingOut n) (u .1) in
+      let counts = to-false (among (13 ∷ []) n) (u .0 .0 .0) in
+      let puts = to-false (among puttingIn n) (u .0 .0 .1) in
+      let takes = to-false (among handingOut n) (u .0 .1) in
+      let fetches = to-false (among fetching n) (u .1) in
       record {
-        balance = λ x. rw (raises, leaves, done) (even x);
+        balance = balance;
         stored = rw (takes, puts) (told .stored);
         counted = λ w. rw counts (told .counted w);
+        since = λ w. rw (counts, fetches) (told .since w);
         handed = none-out;
       }
 
+  -- .. and one that leaves the counts too
+  stays : (n : ℕ) → T (even n) → T (calm n) → ToldOf start h (took n)
+  stays n t =
+      let u = simp and-iff at t in
+      let raises = to-false (among raising n) (u .0 .0) in
+      let leaves = to-false (among leaving n) (u .0 .1) in
+      let done = to-false (among (17 ∷ []) n) (u .1) in
+      λ w. recounts n (h .«ref_counts») w λ x. rw (raises, leaves, done) (same x)
+
   told8 : Entry 8
   told8 t = record {
-    balance = even;
+    balance = same;
     stored = refl;
     counted = told .counted;
+    since = told .since;
     handed = (λ w. was-put (excValue (h .«exc_state»)) (known s .pending-in (t .0)), told .handed);
   }
 
   told9 : Entry 9
-  told9 t = record { balance = even; stored = refl; counted = told .counted; handed = none-out }
+  told9 t = record { balance = same; stored = refl; counted = told .counted; since = told .since; handed = none-out }
 
   told10 : Entry 10
-  told10 t = record { balance = even; stored = refl; counted = told .counted; handed = none-out }
+  told10 t = record { balance = same; stored = refl; counted = told .counted; since = told .since; handed = none-out }
 
   told11 : Entry 11
   told11 t = record {
-    balance = even;
+    balance = same;
     stored = refl;
     counted = λ w. absurd w;
+    since = λ w. refl;
     handed = (λ w. was-put (valueOf (h .storage)) (known s .unmapped-in (t .0)), told .handed);
   }
 
   told12 : Entry 12
   told12 t = record {
-    balance = even;
+    balance = same;
     stored = refl;
     counted = λ w. absurd w;
+    since = λ w. refl;
     handed = (λ w. was-put (valueOf (h .storage)) (known s .unmapped-in (t .0)), told .handed);
   }
 
@@ -170,88 +188,83 @@ module _ (start : Start) (h : Head) (l : List Reader) (b : Bucket) (clean value 
     balance = λ x. omega (arith, raised-balance x);
     stored = told .stored;
     counted = λ w. refl;
+    since = λ w. refl;
+    handed = none-out;
+  }
+
+  told14 : Entry 14
+  told14 t = record {
+    balance = same;
+    stored = told .stored;
+    counted = told .counted;
+    since = λ w. told .since (rw (is-counted (h .«loading_state») (t .0)) tt);
     handed = none-out;
   }
 
   told15 : Entry 15
-  told15 t = record { balance = even; stored = told .stored; counted = λ w. absurd w; handed = none-out }
+  told15 t =
+      let waits = is-waiting (h .«loading_state») (t .0) in
+      record {
+        balance = same;
+        stored = told .stored;
+        counted = λ w. absurd w;
+        since = λ w. rw waits at (told .since (rw waits tt));
+        handed = none-out;
+      }
 
   told16 : Entry 16
-  told16 t = record { balance = even; stored = refl; counted = λ w. absurd w; handed = none-out }
+  told16 t = record { balance = same; stored = refl; counted = λ w. absurd w; since = λ w. absurd w; handed = none-out }
 
-  -- the loader's bucket is the one that the latest 13 named, and it is counted there
-  left-balance : (m : MaybeBucket) → loadingBucket (h .«loading_state») ≡ m → lastCounted start past ≡ m → T (hasBucket m)
+  -- the loader's bucket, if it has one, is the one that the latest 13 named, and it is counted there
+  left-balance : (m : MaybeBucket) → loadingBucket (h .«loading_state») ≡ m → (T (hasBucket m) → lastCounted start past ≡ m)
       → T (validBucket m) → (x : ℕ)
-      → numberAt (lower (bucketOf m .0) (h .«ref_counts»)) x + (refAt (lastCounted start past) x + departures start x past) ≡ start .counts x + arrivals x past
-  left-balance MaybeBucket.None e f k v x = absurd k
-  left-balance (MaybeBucket.At a) e f k v x =
+      → numberAt (lowerIf m (h .«ref_counts»)) x + (cond (hasBucket m) (refAt (lastCounted start past) x) 0 + departures start x past) ≡ start .counts x + arrivals x past
+  left-balance MaybeBucket.None e named v x = omega (arith, told .balance x)
+  left-balance (MaybeBucket.At a) e named v x =
       let inside : a .0 < buckets = ltb→lt (a .0) buckets v in
       let j : a .0 < length (h .«ref_counts») = omega (arith, s .four) in
       let here : refAt (loadingBucket (h .«loading_state»)) (a .0) ≡ 1 = rw e (simp (eq-eqb (a .0) (a .0) refl)) in
       let some : 1 ≤ numberAt (h .«ref_counts») (a .0) = omega (arith, s .counts (a .0) inside) in
-      rw f (omega (arith, number-lower (h .«ref_counts») (a .0) x j some, told .balance x))
+      rw (named tt) (omega (arith, number-lower (h .«ref_counts») (a .0) x j some, told .balance x))
 
   told17 : Entry 17
   told17 t =
       let m = loadingBucket (h .«loading_state») in
       let v = granted h (s .head) .loading (t .0) .1 in
+      let there : T (not (noLoad (h .«loading_state»))) = rw (is-loading (h .«loading_state») (t .0)) tt in
       record {
-        balance = λ x. omega (arith, left-balance m refl (told .counted (t .1 .0)) (t .1 .0) v x);
+        balance = λ x. rw (told .since there) (omega (arith, left-balance m refl (told .counted) v x));
         stored = refl;
         counted = λ w. absurd w;
+        since = λ w. absurd w;
         handed = none-out;
       }
 
   told18 : Entry 18
-  told18 t = record {
-    balance = λ x. omega (arith, raised-balance x);
-    stored = told .stored;
-    counted = told .counted;
-    handed = none-out;
-  }
+  told18 t = recounts 18 _ tt λ x. omega (arith, raised-balance x)
 
   told19 : Entry 19
-  told19 t = record {
-    balance = λ x. omega (arith, raised-balance x);
-    stored = told .stored;
-    counted = told .counted;
-    handed = none-out;
-  }
+  told19 t = recounts 19 _ tt λ x. omega (arith, raised-balance x)
 
   told20 : Entry 20
   unfolding lookFor soughtOf
-  told20 t = record {
-    balance = λ x. omega (arith, lowered-balance (found-counted Phase.Pending (t .0)) x);
-    stored = told .stored;
-    counted = told .counted;
-    handed = none-out;
-  }
+  told20 t = recounts 20 _ tt λ x. omega (arith, lowered-balance (found-counted Phase.Pending (t .0)) x)
 
   told21 : Entry 21
   unfolding lookFor soughtOf
-  told21 t = record {
-    balance = λ x. omega (arith, lowered-balance (found-counted Phase.Pending2 (t .0)) x);
-    stored = told .stored;
-    counted = told .counted;
-    handed = none-out;
-  }
+  told21 t = recounts 21 _ tt λ x. omega (arith, lowered-balance (found-counted Phase.Pending2 (t .0)) x)
 
   told22 : Entry 22
   unfolding lookFor soughtOf
-  told22 t = record {
-    balance = λ x. omega (arith, lowered-balance (found-counted (Phase.Obtained value) (t .0)) x);
-    stored = told .stored;
-    counted = told .counted;
-    handed = none-out;
-  }
+  told22 t = recounts 22 _ tt λ x. omega (arith, lowered-balance (found-counted (Phase.Obtained value) (t .0)) x)
 
   entries : Below pastLast Entry
   entries =
       (λ t. absurd (t .0))
-      & (λ t. calm 1 tt) & (λ t. calm 2 tt) & (λ t. calm 3 tt) & (λ t. calm 4 tt) & (λ t. calm 5 tt)
-      & (λ t. calm 6 tt) & (λ t. calm 7 tt) & told8
-      & told9 & told10 & told11 & told12 & told13 & (λ t. calm 14 tt) & told15 & told16
-      & told17 & told18 & told19 & told20 & told21 & told22 & (λ t. calm 23 tt) & (λ t. calm 24 tt)
+      & (λ t. stays 1 tt tt) & (λ t. stays 2 tt tt) & (λ t. stays 3 tt tt) & (λ t. stays 4 tt tt) & (λ t. stays 5 tt tt)
+      & (λ t. stays 6 tt tt) & (λ t. stays 7 tt tt) & told8
+      & told9 & told10 & told11 & told12 & told13 & told14 & told15 & told16
+      & told17 & told18 & told19 & told20 & told21 & told22 & (λ t. stays 23 tt tt) & (λ t. stays 24 tt tt)
       & tt
 
 -- ---- one request
@@ -263,6 +276,7 @@ refused-tells start h past q why told =
       balance = λ x. rw (refusal-positive why) (omega (arith, told .balance x));
       stored = rw (refusal-positive why) (told .stored);
       counted = λ t. rw (refusal-positive why) (told .counted t);
+      since = λ t. rw (refusal-positive why) (told .since t);
       handed = (λ t. absurd t, told .handed);
     }
 
@@ -308,7 +322,7 @@ tells start p past (q ∷ qs) sound told =
 
 -- at the start nothing has happened
 pub start-told : (p : Page) → ToldOf (startOf p) (headOf p) []
-start-told p = record { balance = λ b. refl; stored = as-kept (p .storage); counted = λ t. refl; handed = tt }
+start-told p = record { balance = λ b. refl; stored = as-kept (p .storage); counted = λ t. refl; since = λ t. refl; handed = tt }
   where
     as-kept : (s : Storage) → s ≡ cond (not (isStored s)) Storage.Out (Storage.In (valueOf s))
     as-kept Storage.Out = refl

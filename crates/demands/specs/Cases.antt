@@ -103,7 +103,29 @@ no q why = record { request = q; answer = Answer.Refused why; says = [] }
 
 -- ---- the worked cases
 abbrev pub caseA : List Row
-caseA = out (plain 12) 0 (flagIs Flag.Loading ∷ isOut ∷ []) ∷ no (put 17 5) Refusal.WrongBucket ∷ []
+caseA =
+    out (plain 12) 0 (flagIs Flag.Loading ∷ isOut ∷ [])
+    ∷ ok (put 17 5) (flagIs Flag.Available ∷ storedIs 5 ∷ countsAre 0 0 0 0 ∷ [])
+    ∷ []
+
+-- the same beside a reader: its count stays, at bucket 0 too
+abbrev pub caseABeside : ℕ → (Page → Bool) → List Row
+caseABeside b counts =
+    out (plain 12) 0 []
+    ∷ ok (at 19 b) (counts ∷ [])
+    ∷ ok (put 17 5) (flagIs Flag.Available ∷ storedIs 5 ∷ counts ∷ [])
+    ∷ []
+
+-- .. and by a loader that waited first
+abbrev pub caseAWaiting : List Row
+caseAWaiting =
+    out (plain 11) 0 (flagIs Flag.LoadingExcLock ∷ [])
+    ∷ ok (plain 15) (flagIs Flag.Loading ∷ [])
+    ∷ ok (put 17 7) (flagIs Flag.Available ∷ storedIs 7 ∷ [])
+    ∷ []
+
+abbrev pub casesA : List (List Row)
+casesA = caseA ∷ caseABeside 1 (countsAre 0 1 0 0) ∷ caseABeside 0 (countsAre 1 0 0 0) ∷ caseAWaiting ∷ []
 
 abbrev pub caseB : List Row
 caseB =
@@ -161,13 +183,13 @@ caseH = no (at 24 0) Refusal.NoHolder ∷ no (plain 2) Refusal.NoHolder ∷ []
 
 -- C goes on from B, D from C, E from D
 abbrev pub workedCases : List (List Row)
-workedCases = caseA ∷ (caseB ++ caseC ++ caseD ++ caseE) ∷ caseF ∷ caseG ∷ caseH ∷ []
+workedCases = casesA ++ (caseB ++ caseC ++ caseD ++ caseE) ∷ caseF ∷ caseG ∷ caseH ∷ []
 
 -- ---- case A as bytes
 -- 12; 17 with the value 5
 abbrev pub requestsA : List ℕ
 requestsA = 12 ∷ replicate 15 0 ++ 17 ∷ replicate 7 0 ++ 5 ∷ replicate 7 0
 
--- accepted, the value 0 is handed out; refused by 7
+-- accepted, the value 0 is handed out; accepted
 abbrev pub answersA : List ℕ
-answersA = 0 ∷ 1 ∷ replicate 14 0 ++ 7 ∷ replicate 15 0
+answersA = 0 ∷ 1 ∷ replicate 30 0

@@ -227,7 +227,7 @@ trials =
     ∷ record { page = freshPage 0; request = at 13 9; number = 4 }
     ∷ record { page = freshPage 0; request = plain 1; number = 5 }
     ∷ record { page = freshPage 0; request = plain 2; number = 6 }
-    ∷ record { page = pageUnder Flag.Loading; request = put 17 5; number = 7 }
+    ∷ record { page = pageUnder Flag.Loading; request = put 16 5; number = 7 }
     ∷ record { page = pageUnder Flag.ExcLockClean; request = plain 8; number = 8 }
     ∷ record { page = after (pageUnder Flag.ExcLockClean) (at 19 0 ∷ []); request = plain 7; number = 9 }
     ∷ record { page = crowded; request = at 19 0; number = 10 }

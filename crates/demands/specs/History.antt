@@ -9,12 +9,12 @@ use lib.ListN.{length}
 use Rattle.laws.specs.Lists.{among}
 use Rattle.kinds.specs.declared.MaybeBucket.{MaybeBucket}
 use Rattle.page_record.specs.declared.Page.{Page}
-use Rattle.page_record.specs.Holders.{isStored, valueOf, loadingBucket}
+use Rattle.page_record.specs.Holders.{isStored, valueOf, hasBucket, loadingBucket}
 use Rattle.page_record.specs.Pages.{numberAt}
 use Rattle.page_record.specs.References.{refAt}
 use Rattle.requests.specs.declared.{Request.Request, Answer.Answer, Verdict.Verdict}
 use Rattle.requests.specs.Answers.{answerNumber, answerValue, withdraws}
-use Rattle.lock.specs.Words.{raising, leaving, puttingIn, handingOut}
+use Rattle.lock.specs.Words.{raising, leaving, puttingIn, handingOut, fetching}
 use Rattle.lock.specs.Step.{stepOf}
 use Rattle.wire.specs.Answers.{lineOf}
 use Rattle.wire.specs.Requests.{fieldsOf}
@@ -77,7 +77,7 @@ answerLines (e ∷ past) = answerLines past ++ lineOf (e .answer)
 
 -- ---- what a history starts from
 -- what is taken to have happened just before: each bucket's count, which is no arrival; the value that was put in last; whether the
--- page was withdrawn since; and the loader's bucket, which the latest 13 named
+-- page was withdrawn since; and the loader's bucket, which the latest 13 named, after the withdrawal
 pub record Start : Type 0 where
   pub counts : ℕ → ℕ
   pub value : ℕ
@@ -114,12 +114,18 @@ module _ (start : Start) where
   lastCounted [] = start .loader
   lastCounted (e ∷ past) = cond (accepted (13 ∷ []) e) (MaybeBucket.At (e .request .bucket)) (lastCounted past)
 
-  -- departures from b: accepted 20, 21, 22 naming b, and accepted 17 where the latest accepted 13 named b
+  -- a 13 was accepted since the latest accepted 11 or 12; before the start, just if there is a loader that has a bucket
+  abbrev pub countedSince : List Event → Bool
+  countedSince [] = hasBucket (start .loader)
+  countedSince (e ∷ past) = cond (accepted (13 ∷ []) e) true (cond (accepted fetching e) false (countedSince past))
+
+  -- departures from b: accepted 20, 21, 22 naming b, and accepted 17 where a 13 was accepted since the latest accepted 11 or 12, and
+  -- the latest 13 named b
   abbrev pub departures : ℕ → List Event → ℕ
   departures b [] = 0
   departures b (e ∷ past) =
       cond (accepted leaving e && namesBucket b e) 1 0
-      + cond (accepted (17 ∷ []) e) (refAt (lastCounted past) b) 0
+      + cond (accepted (17 ∷ []) e && countedSince past) (refAt (lastCounted past) b) 0
       + departures b past
 
   -- the last value put in: of the latest accepted 9, 10, 16 or 17, else the start's

@@ -3,7 +3,7 @@ use Prim.Native.Nat.{ℕ, _+_, _-_}
 use mathlib.Core.List.{List}
 use lib.ListN.{set}
 use Rattle.kinds.specs.declared.{Count.Count, Flag.Flag, Storage.Storage, ExcState.ExcState, LoadingState.LoadingState}
-use Rattle.kinds.specs.declared.{WritebackState.WritebackState}
+use Rattle.kinds.specs.declared.{WritebackState.WritebackState, MaybeBucket.MaybeBucket}
 use Rattle.page_record.specs.declared.Head.{Head}
 use Rattle.page_record.specs.Pages.{numberAt, headWith}
 
@@ -41,3 +41,11 @@ raised b h = withCounts (raise b (h .«ref_counts»)) h
 
 abbrev pub lowered : ℕ → Head → Head
 lowered b h = withCounts (lower b (h .«ref_counts»)) h
+
+-- one less at a holder's bucket, if it has one
+abbrev pub lowerIf : MaybeBucket → List Count → List Count
+lowerIf MaybeBucket.None cs = cs
+lowerIf (MaybeBucket.At b) cs = lower (b .0) cs
+
+abbrev pub loweredIf : MaybeBucket → Head → Head
+loweredIf own h = withCounts (lowerIf own (h .«ref_counts»)) h

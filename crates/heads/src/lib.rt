@@ -5,7 +5,7 @@ ghost use mathlib.Core.List.{[]};
 ghost use Rattle.page_record.specs.Holders.{valueOf};
 ghost use Rattle.page_record.specs.Pages.{numberAt};
 ghost use Rattle.heads.specs.Setters.{withStorage, withFlag, withCounts, withExc, withLoading, withWriteback};
-ghost use Rattle.heads.specs.Setters.{withNumber, lowered};
+ghost use Rattle.heads.specs.Setters.{withNumber, lowered, loweredIf};
 ghost use Rattle.heads.specs.Decisions.{refused, decided, accepts, handsOut};
 use kinds::BUCKETS;
 use kinds::Bucket;
@@ -13,6 +13,7 @@ use kinds::Count;
 use kinds::ExcState;
 use kinds::Flag;
 use kinds::LoadingState;
+use kinds::MaybeBucket;
 use kinds::Reader;
 use kinds::Storage;
 use kinds::WritebackState;
@@ -215,6 +216,16 @@ pub fn lower(h: Head, bucket: Bucket) -> Head
         with_number(h, bucket, 0)
     } else {
         with_number(h, bucket, n - 1)
+    }
+}
+
+// The head with one less at a holder's bucket, if it has one.
+pub fn lower_if(h: Head, own: MaybeBucket) -> Head
+    ensures { λ r. ⌜ r ≡ loweredIf own h ⌝ }
+{
+    match own {
+        MaybeBucket::None => h,
+        MaybeBucket::At(bucket) => lower(h, bucket),
     }
 }
 

@@ -73,11 +73,11 @@ applies5 p q = not (flagLets (q .step) (p .flag))
 abbrev pub applies6 : Page → Request → Bool
 applies6 p q = not (holderThere p q)
 
--- 7: the holder lacks a bucket (9, 10, 16, 17) or has one (18)
+-- 7: the holder lacks a bucket (9, 10, 16) or has one (18)
 abbrev pub bucketWrong : Page → ℕ → Bool
 bucketWrong p n =
     cond (among (9 ∷ 10 ∷ []) n) (not (hasBucket (excBucket (p .«exc_state»))))
-    (cond (among (16 ∷ 17 ∷ []) n) (not (hasBucket (loadingBucket (p .«loading_state»))))
+    (cond (eqb n 16) (not (hasBucket (loadingBucket (p .«loading_state»))))
     (cond (eqb n 18) (hasBucket (excBucket (p .«exc_state»)))
     false))
 

@@ -28,6 +28,7 @@
 --   add ref_counts += [b => n + 1];                  (add-ref-counts : countOf post b ≡ n + 1)
 --                                                    (elsewhere : Elsewhere pre post b), the other counts stay
 --   (n - 1) as nat                                   (as-nat : 1 ≤ n)
+--   (no such line)                                   (one-less : OneLess pre post bucket), at a holder's bucket, if it has one
 --   have ref_counts >= [b => n];                     (have : countOf pre b ≡ n)
 --   let expected_rc = if P { 1 } else { 0 };         (let-expected-rc : (P × (expected-rc ≡ 1)) ⊎ ..)
 --   birds_eye let v = pre.storage.get_Some_0();      (birds-eye-let : pre .storage ≡ Storage.In v)
@@ -105,6 +106,19 @@ countOf s b = (getD (s .ref-counts) (b .0) (record { 0 = 0 })) .0
 pub record Elsewhere (pre post : RwLock) (bucket : Bucket) : Type 0 where
   pub as-many : length (post .ref-counts) ≡ length (pre .ref-counts)
   pub others : (b : Bucket) → b ≢ bucket → countOf post b ≡ countOf pre b
+
+-- one less at a bucket: remove ref_counts -= [bucket => let n]; add ref_counts += [bucket => (n - 1) as nat];
+pub record Fewer (pre post : RwLock) (bucket : Bucket) : Type 0 where
+  pub pre-count : ℕ
+  pub remove-ref-counts : countOf pre bucket ≡ pre-count
+  pub as-nat : 1 ≤ pre-count
+  pub add-ref-counts : countOf post bucket ≡ pre-count - 1
+  pub elsewhere : Elsewhere pre post bucket
+
+-- one less at a holder's bucket; where it has none, the counts are the same list
+abbrev pub OneLess : RwLock → RwLock → MaybeBucket → Type 0
+OneLess pre post MaybeBucket.None = post .ref-counts ≡ pre .ref-counts
+OneLess pre post (MaybeBucket.At bucket) = Fewer pre post bucket
 
 -- x is not in the list: what stands after the list is the first equal entry
 abbrev pub Absent : Reader → List Reader → Type 0
@@ -304,17 +318,13 @@ pub data Moves (pre : RwLock) (q : Request) (post : RwLock) (out : Storage) : Ty
       (add : post .shared-state ≡ pre .shared-state ++ obtained get-some (q .value) ∷ [])
       (only : Only (loading-state ∷ flag ∷ storage ∷ shared-state ∷ []) pre post out)
       → Moves pre q post out
-  -- 17 deposit_loading_to_done, line 347; changed: it takes one off the loader's bucket
-  deposit-loading-to-done : (bucket : MaybeBucket) (get-some : Bucket) (pre-count : ℕ)
+  -- 17 deposit_loading_to_done, line 347; changed: it asks for no bucket, and takes one off the loader's, if it has one
+  deposit-loading-to-done : (bucket : MaybeBucket)
       (step : q .step ≡ 17)
       (remove : (pre .loading-state ≡ LoadingState.Obtained bucket) × (post .loading-state ≡ LoadingState.None))
-      (require : bucket ≡ some get-some)
       (update : post .flag ≡ Flag.Available)
       (deposit : (pre .storage ≡ Storage.Out) × (post .storage ≡ Storage.In (q .value)))
-      (remove-ref-counts : countOf pre get-some ≡ pre-count)
-      (as-nat : 1 ≤ pre-count)
-      (add-ref-counts : countOf post get-some ≡ pre-count - 1)
-      (elsewhere : Elsewhere pre post get-some)
+      (one-less : OneLess pre post bucket)
       (only : Only (loading-state ∷ flag ∷ storage ∷ ref-counts ∷ []) pre post out)
       → Moves pre q post out
   -- 18 exc_inc_count, line 356

@@ -21,3 +21,7 @@ puttingIn = 9 ∷ 10 ∷ 16 ∷ 17 ∷ []
 -- the page is handed out
 abbrev pub handingOut : List ℕ
 handingOut = 8 ∷ 11 ∷ 12 ∷ []
+
+-- .. to a loader
+abbrev pub fetching : List ℕ
+fetching = 11 ∷ 12 ∷ []

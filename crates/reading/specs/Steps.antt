@@ -12,7 +12,7 @@ use Rattle.page_record.specs.Holders.{valueOf, hasBucket, bucketOf, isWaiting, 
 use Rattle.requests.specs.declared.{Refusal.Refusal, Request.Request}
 use Rattle.heads.specs.declared.Edit.{Edit}
 use Rattle.heads.specs.Decisions.{Step, accepts, handsOut, isFound, placeOf, reader, under}
-use Rattle.heads.specs.Setters.{withStorage, withFlag, withLoading, raised, lowered}
+use Rattle.heads.specs.Setters.{withStorage, withFlag, withLoading, raised, lowered, loweredIf}
 
 -- ---- the loader
 -- what 11 and 12 share: an unmapped page is handed out to a loader, which stands there under a flag
@@ -61,12 +61,12 @@ depositLoadingToShared h q full =
     (withFlag Flag.Available (withStorage (Storage.In (q .value)) (withLoading LoadingState.None h)))
     (Edit.Push (reader (Phase.Obtained (q .value)) (bucketOf (loadingBucket l))))
 
--- 17, line 347; changed: it takes one off the loader's bucket
+-- 17, line 347; changed: it asks for no bucket, and takes one off the loader's, if it has one
 abbrev pub depositLoadingToDone : Head → Request → Step
 depositLoadingToDone h q =
     let l = h .«loading_state» in
-    accepts ((Refusal.NoHolder, isLoading l) ∷ (Refusal.WrongBucket, hasBucket (loadingBucket l)) ∷ [])
-    (lowered (bucketOf (loadingBucket l) .0)
+    accepts ((Refusal.NoHolder, isLoading l) ∷ [])
+    (loweredIf (loadingBucket l)
     (withFlag Flag.Available (withStorage (Storage.In (q .value)) (withLoading LoadingState.None h))))
     Edit.Keep
 

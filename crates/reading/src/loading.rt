@@ -1,6 +1,6 @@
 // The loader, the first in a page's life: steps 11 to 17. An unmapped page is handed out to it to be filled (11, or 12 where it
 // wants no bucket). It gets a bucket (13) and then lets readers pass their first check (14), or does so with no bucket (15).
-// It puts the page in and goes on as a reader (16) or leaves (17); both need a bucket, so one that has none keeps the page.
+// It puts the page in and goes on as a reader, which needs a bucket (16), or leaves (17).
 ghost use mathlib.Core.Path.{_≡_};
 ghost use Rattle.heads.specs.Decisions.{decided};
 ghost use Rattle.reading.specs.Steps.{withdrawAlloc, withdrawAllocNoRefcount, loadingIncCount, obtainLoading};
@@ -9,7 +9,7 @@ use heads::Decision;
 use heads::Edit;
 use heads::deposit_loading;
 use heads::leave_loading;
-use heads::lower;
+use heads::lower_if;
 use heads::number_at;
 use heads::refuse;
 use heads::with_number;
@@ -118,7 +118,7 @@ pub fn deposit_loading_to_shared(h: Head, q: Request, full: bool) -> Decision
     deposit_loading(h, value, Edit::Push(reader))
 }
 
-// 17: the loader puts the page in, and leaves. Changed: it takes one off the loader's bucket.
+// 17: the loader puts the page in, and leaves. Changed: it asks for no bucket, and takes one off the loader's, if it has one.
 pub fn deposit_loading_to_done(h: Head, q: Request) -> Decision
     ensures { λ r. ⌜ r ≡ decided h (depositLoadingToDone h q) ⌝ }
 {
@@ -127,8 +127,5 @@ pub fn deposit_loading_to_done(h: Head, q: Request) -> Decision
     let LoadingState::Obtained { bucket } = loading else {
         return refuse(h, Refusal::NoHolder);
     };
-    let MaybeBucket::At(own) = bucket else {
-        return refuse(h, Refusal::WrongBucket);
-    };
-    deposit_loading(lower(h, own), value, Edit::Keep)
+    deposit_loading(lower_if(h, bucket), value, Edit::Keep)
 }

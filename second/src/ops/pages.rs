@@ -106,6 +106,7 @@ fn holders_apart() -> Vec<(u8, Image)> {
         (5, after(&available()).count(1, 3)),
         (5, after(&claimed_counted()).count(3, 1)),
         (5, after(&load_counted()).count(2, 255)),
+        (5, after(&loading_uncounted()).count(0, 3)),
         (6, after(&unmapped()).flag(Flag::LoadingExcLock)),
         (6, after(&claimed()).flag(Flag::Unmapped)),
         (6, after(&pending()).flag(Flag::Claimed)),
@@ -198,7 +199,8 @@ pub fn without_meaning() -> Vec<Vec<u8>> {
     ]
 }
 
-/// The pages of the tables, payloads without meaning, and drawn pages.
+/// The pages of the tables, payloads without meaning, a loader that leaves, and
+/// drawn pages.
 pub fn play(stream: &mut Stream, random: &mut Random, plan: &Plan, walked: &[Page]) {
     for (_, image) in main_pages() {
         meet(stream, random, &image);
@@ -212,6 +214,7 @@ pub fn play(stream: &mut Stream, random: &mut Random, plan: &Plan, walked: &[Pag
         stream.push(7, 0, &payload);
         stream.look();
     }
+    finish_load(stream, random);
     if plan.long() {
         play_situations(stream, random);
     }
@@ -243,11 +246,27 @@ fn play_drawn(stream: &mut Stream, random: &mut Random, plan: &Plan, walked: &[P
     }
 }
 
-/// A page, and every function on it. Where it is sound, more is asked, so that
-/// its holders show.
+/// A loader without a bucket, beside readers at bucket 0: it cannot stay as one
+/// of them, and it leaves.
+fn finish_load(stream: &mut Stream, random: &mut Random) {
+    stream.raw(&after(&loading_uncounted()).noise(random).0);
+    for number in [16, 17] {
+        stream.ask(&step(number).of(random.value()).bytes());
+        stream.look();
+    }
+    ask_on(stream, random);
+}
+
+/// A page, and every function on it.
 fn meet(stream: &mut Stream, random: &mut Random, image: &Image) {
     stream.raw(&image.0);
     stream.look();
+    ask_on(stream, random);
+}
+
+/// Steps and a run on the page as it is. Where it is sound, more is asked, so
+/// that its holders show.
+fn ask_on(stream: &mut Stream, random: &mut Random) {
     let hand = Hand::for_page(stream.page());
     stream.ask(&hand.draw(random, stream.page()));
     stream.ask(&hand.draw(random, stream.page()));

@@ -1,9 +1,10 @@
 //! What is asked by script: the worked cases (RULES 10), the ceilings, equal
-//! readers, values of all 64 bits, and every step in every situation.
+//! readers, loads without a bucket, values of all 64 bits, and every step in
+//! every situation.
 
 use super::random::Random;
 use super::request::{records, step, Draft, EDGES};
-use super::situations::{self, LOADED};
+use super::situations::{self, LOADED, PREFETCHES};
 use super::stream::Stream;
 use super::Plan;
 use crate::run::answer_line;
@@ -12,9 +13,12 @@ use crate::wire::RECORD;
 
 /// Cases A to H, where C goes on from B, D from C, E from D; then the steps that
 /// no case accepts.
-const CASES: [&[Draft]; 7] = [
+const CASES: [&[Draft]; 9] = [
     // A
     &[step(12), step(17).of(5)],
+    &[step(12), step(19).at(1), step(17).of(5)],
+    &[step(12), step(19), step(17).of(5)],
+    &[step(11), step(15), step(17).of(7)],
     // B to E
     &[
         step(11),
@@ -53,8 +57,7 @@ const CASES: [&[Draft]; 7] = [
     &[step(19).at(4), step(19).at(3)],
     // H
     &[step(24), step(2)],
-    // 15, and then 16, 21, 22, 3, 18 and 10
-    &[step(11), step(15)],
+    // 16, 21, 22, 3, 18 and 10
     &[
         step(11),
         step(13).at(1),
@@ -150,17 +153,42 @@ fn ceilings() -> Vec<Ceiling> {
     let edit: &[Draft] = &EDIT;
     vec![
         // Case I. Without a loader or an editor the ceiling is not asked for.
+        // Under every ceiling a loader can leave, with a bucket or without.
         (
             readers([32, 0, 0, 0]).to_vec(),
-            vec![step(19), step(13), step(18)],
+            vec![
+                step(19),
+                step(13),
+                step(18),
+                step(11),
+                step(15),
+                step(17).of(9),
+                step(19),
+            ],
         ),
         (
             readers([16, 16, 16, 17]).to_vec(),
-            vec![step(19), step(16), step(9)],
+            vec![
+                step(19),
+                step(16),
+                step(9),
+                step(12),
+                step(16).of(3),
+                step(17).of(3),
+                step(19),
+            ],
         ),
         (
             readers([31, 31, 2, 0]).to_vec(),
-            vec![step(19), step(19).at(1), step(19).at(2)],
+            vec![
+                step(19),
+                step(19).at(1),
+                step(19).at(2),
+                step(11),
+                step(13).at(3),
+                step(14),
+                step(17).of(3),
+            ],
         ),
         // A loader at a full bucket, and then with one reader less.
         (
@@ -237,6 +265,34 @@ fn values(first: u64, second: u64, third: u64) -> Vec<Draft> {
     ]
 }
 
+/// A load without a bucket beside readers of both phases, at bucket 0 and at
+/// this one. The loader cannot stay as a reader; it leaves, and whoever comes
+/// next shows that it is gone and that the counts stayed.
+fn prefetch(bucket: u8, value: u64) -> Vec<Draft> {
+    let (load, claim) = if bucket.is_multiple_of(2) {
+        (PREFETCHES[0], step(3))
+    } else {
+        (PREFETCHES[1], step(4).at(bucket).of(value))
+    };
+    let first = [step(19), step(19).at(bucket)];
+    let then = [
+        step(19),
+        step(23),
+        step(19).at(bucket),
+        step(23).at(bucket),
+        step(24).at(bucket),
+        step(16).of(value),
+        step(17).of(value),
+        step(17).of(value),
+        step(24).at(bucket),
+        step(23).at(bucket),
+        step(1),
+        claim,
+        step(2),
+    ];
+    [&first, load, &then].concat()
+}
+
 /// A claimant of this bucket visits all four, and meets a reader at each.
 fn visits(own: u8) -> Vec<Draft> {
     let mut script = vec![
@@ -281,6 +337,10 @@ pub fn play(stream: &mut Stream, random: &mut Random) {
     }
     for bucket in 0..4 {
         stream.play(&visits(bucket));
+        stream.look();
+    }
+    for (bucket, value) in (0..).zip(EDGES) {
+        stream.play(&prefetch(bucket, value));
         stream.look();
     }
     for value in EDGES {

@@ -8,6 +8,9 @@ use crate::run::answer_line;
 /// The value that a loaded page has.
 pub const LOADED: u64 = 7;
 
+/// The two ways to a loader that has the page and no bucket.
+pub const PREFETCHES: [&[Draft]; 2] = [&[step(12)], &[step(11), step(15)]];
+
 /// The scripts, each from a fresh page of 0.
 pub fn all() -> Vec<Vec<Draft>> {
     vec![
@@ -60,10 +63,11 @@ pub fn loading() -> Vec<Draft> {
     then(then(load_counted(), &[step(14)]), &reader)
 }
 
-/// A loader that goes without a bucket.
+/// A loader that goes without a bucket, and readers of both phases, at bucket
+/// 0 too.
 pub fn loading_uncounted() -> Vec<Draft> {
-    let reader = [step(19).at(3), step(23).at(3)];
-    then(then(unmapped(), &[step(12)]), &reader)
+    let readers = [step(19).at(3), step(23).at(3), step(19).times(2), step(23)];
+    then(then(unmapped(), PREFETCHES[0]), &readers)
 }
 
 /// A loaded page: readers of every phase at bucket 1, and two that have

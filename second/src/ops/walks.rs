@@ -3,7 +3,8 @@
 
 use super::damage::one_wrong;
 use super::random::Random;
-use super::request::{records, step};
+use super::request::{records, step, Draft};
+use super::situations::PREFETCHES;
 use super::stream::Stream;
 use super::Plan;
 use crate::kinds::SharedState;
@@ -16,8 +17,8 @@ use crate::wire::RECORD;
 struct Mix {
     /// The steps; one that stands there twice is drawn twice as often.
     steps: &'static [u8],
-    /// Whether the page is loaded first.
-    loaded: bool,
+    /// How the page is loaded first, if it is.
+    load: Option<fn(&mut Random) -> Vec<Draft>>,
     /// How many requests a walk makes before the next one starts.
     length: usize,
 }
@@ -29,16 +30,18 @@ const READERS: Mix = Mix {
     steps: &[
         19, 19, 19, 19, 19, 19, 19, 19, 23, 23, 23, 24, 24, 24, 20, 21, 22, 1, 2,
     ],
-    loaded: true,
+    load: Some(load),
     length: 400,
 };
 
-/// Loaders, until the page is there. A loader without a bucket stays for good,
-/// so these walks are short.
+/// Loaders, until the page is there, and whoever comes next. A page is loaded
+/// once, so these walks are short.
 const LOADERS: Mix = Mix {
-    steps: &[11, 11, 12, 13, 13, 14, 15, 16, 17, 19, 20, 21, 23, 24],
-    loaded: false,
-    length: 16,
+    steps: &[
+        1, 3, 4, 11, 11, 12, 13, 13, 14, 15, 16, 17, 17, 19, 20, 21, 23, 24,
+    ],
+    load: None,
+    length: 20,
 };
 
 /// Claimants and editors all the way, and a few readers in their way.
@@ -47,16 +50,16 @@ const EDITORS: Mix = Mix {
         3, 4, 4, 4, 5, 5, 6, 6, 7, 7, 7, 7, 7, 7, 8, 8, 8, 9, 10, 10, 18, 18, 19, 23, 24, 20, 20,
         20, 21, 21, 22,
     ],
-    loaded: true,
+    load: Some(load),
     length: 300,
 };
 
-/// The archive beside a claim.
+/// The archive beside a claim, on a page that was loaded without a bucket.
 const ARCHIVE: Mix = Mix {
     steps: &[
         1, 1, 1, 2, 3, 4, 4, 5, 6, 7, 7, 7, 8, 9, 9, 18, 19, 23, 24, 20, 20, 21, 21, 22,
     ],
-    loaded: true,
+    load: Some(prefetch),
     length: 200,
 };
 
@@ -64,7 +67,7 @@ const EVERYTHING: Mix = Mix {
     steps: &[
         1, 2, 3, 4, 5, 6, 7, 8, 9, 10, 11, 12, 13, 14, 15, 16, 17, 18, 19, 20, 21, 22, 23, 24,
     ],
-    loaded: false,
+    load: None,
     length: 60,
 };
 
@@ -95,10 +98,8 @@ fn walk(stream: &mut Stream, random: &mut Random, mix: &Mix, length: usize, page
         bucket: random.byte_below(4),
     };
     stream.fresh(random.value());
-    if mix.loaded {
-        let bucket = random.byte_below(4);
-        let last = step(16 + random.byte_below(2)).of(random.value());
-        stream.run_all(&records(&[step(11), step(13).at(bucket), step(14), last]));
+    if let Some(load) = mix.load {
+        stream.run_all(&records(&load(random)));
     }
     let mut left = length;
     while left > 0 {
@@ -111,6 +112,22 @@ fn walk(stream: &mut Stream, random: &mut Random, mix: &Mix, length: usize, page
         }
     }
     stream.look();
+}
+
+/// A load at any bucket; the loader stays as a reader, or leaves.
+fn load(random: &mut Random) -> Vec<Draft> {
+    let bucket = random.byte_below(4);
+    let last = step(16 + random.byte_below(2)).of(random.value());
+    vec![step(11), step(13).at(bucket), step(14), last]
+}
+
+/// A load without a bucket, beside readers at bucket 0 and at any.
+fn prefetch(random: &mut Random) -> Vec<Draft> {
+    let bucket = random.byte_below(4);
+    let load = random.pick(&PREFETCHES);
+    let first = [step(19), step(19).at(bucket)];
+    let then = [step(23).at(bucket), step(17).of(random.value())];
+    [&first, load, &then].concat()
 }
 
 /// The next requests, by single steps or in a run; tells how many they were.

@@ -35,8 +35,7 @@ fn first_operation(stream: &[u8]) -> Option<(Operation, &[u8])> {
 /// The requests from one fresh or raw page to the next.
 #[allow(dead_code)]
 pub struct Walk {
-    /// The value of the fresh page, or none where it came from elsewhere.
-    pub fresh: Option<u64>,
+    pub start: Page,
     pub asked: Vec<Asked>,
 }
 
@@ -54,17 +53,13 @@ pub struct Asked {
 #[allow(dead_code)]
 pub fn walks(stream: &[u8]) -> Vec<Walk> {
     let mut drill = Drill::start();
-    let mut walks = vec![start(Some(0))];
+    let mut walks = vec![start(drill.page())];
     for operation in operations(stream).0 {
         let mut page = drill.page().clone();
         let written = drill.perform(&operation).unwrap();
         let lines = match operation.number {
-            1 => {
-                walks.push(start(Some(operation.a)));
-                continue;
-            }
-            7 => {
-                walks.push(start(None));
+            1 | 7 => {
+                walks.push(start(drill.page()));
                 continue;
             }
             2 | 3 => &written[..],
@@ -81,9 +76,11 @@ pub fn walks(stream: &[u8]) -> Vec<Walk> {
     walks
 }
 
-fn start(fresh: Option<u64>) -> Walk {
-    let asked = Vec::new();
-    Walk { fresh, asked }
+fn start(page: &Page) -> Walk {
+    Walk {
+        start: page.clone(),
+        asked: Vec::new(),
+    }
 }
 
 /// The operation's requests, one by one.

@@ -18,7 +18,7 @@ use Rattle.kinds.specs.declared.{Reader.Reader}
 use Rattle.kinds.specs.Limits.{buckets, ceiling, capacity}
 use Rattle.readers.specs.Listed.{findIn}
 use Rattle.page_record.specs.declared.Head.{Head}
-use Rattle.page_record.specs.Holders.{valueOf, hasBucket, bucketOf, excBucket, excVisited, loadingBucket}
+use Rattle.page_record.specs.Holders.{valueOf, validBucket, excBucket, excVisited, loadingBucket}
 use Rattle.page_record.specs.Pages.{numberAt}
 use Rattle.page_record.specs.References.{refAt}
 use Rattle.page_record.proofs.Inversions.{is-claim, is-await, is-loading, is-held, has-bucket, is-pending, is-editing}
@@ -32,7 +32,7 @@ use Rattle.requests.proofs.Verdicts.{passed}
 use Rattle.requests.proofs.Formed.{Formed}
 use Rattle.heads.specs.declared.Decision.{Decision}
 use Rattle.heads.specs.Decisions.{Step, settled, decided, reader}
-use Rattle.heads.specs.Setters.{withNumber}
+use Rattle.heads.specs.Setters.{withNumber, lowerIf}
 use Rattle.editing.specs.Steps.{takeWriteback, releaseWriteback, bucketlessClaim, sharedToClaim, claimToPending}
 use Rattle.editing.specs.Steps.{takeExcLockFinishWriteback, takeExcLockCheckRefCount, withdrawTakeExcLockFinish}
 use Rattle.editing.specs.Steps.{depositDowngradeExcLock, depositDowngradeExcLockToClaim, excIncCount}
@@ -43,7 +43,7 @@ use Rattle.steps.specs.Decide.{unknown}
 use Rattle.lock.specs.Step.{edited, lookFor, decidedOn}
 use Rattle.lock.specs.Words.{raising, listing}
 use Rattle.lock.specs.Moves.{Moves, RwLock, Field, stateWith, countOf, Elsewhere, Absent, Only, Room, answerOf}
-use Rattle.lock.specs.Moves.{pending, pending2, obtained}
+use Rattle.lock.specs.Moves.{pending, pending2, obtained, OneLess}
 use Rattle.lock.proofs.Exact.Laws.{handed, is-handed, unrefused, stepNo, by-number, expected, Split, split}
 use Rattle.lock.proofs.Exact.Flags.{releases, awaits, lock-flag, opened}
 use Rattle.lock.proofs.Keeps.Counts.{set-there, set-others}
@@ -52,9 +52,8 @@ use Rattle.lock.proofs.Reach.{lock-withdraws, alloc-withdraws, alloc-no
 use Rattle.lock.proofs.Exact.Granted.{Granted, granted}
 
 -- ---- a holder's own bucket, and step 6's clean
-own : (m : MaybeBucket) → T (hasBucket m) → refAt m (bucketOf m .0) ≡ 1
-own MaybeBucket.None t = absurd t
-own (MaybeBucket.At b) t = rw (eq-eqb (b .0) (b .0) refl)
+own : (b : Bucket) → refAt (MaybeBucket.At b) (b .0) ≡ 1
+own b = rw (eq-eqb (b .0) (b .0) refl)
 
 bit : (n : ℕ) → n ≤ 1 → n ≡ cond (eqb n 1) 1 0
 bit n k = go (eqb n 1) refl
@@ -120,6 +119,22 @@ module _ (h : Head) (l : List Reader) (q : Request) where
           ap (λ (cs : List Count). numberAt cs (x .0)) e
           ∙ set-others (h .«ref_counts») (b .0) n (x .0) λ p. d (ap (λ (y : ℕ). record { 0 = y }) p);
     }
+
+    -- one less at a holder's bucket, if it has one: it is counted there
+    less : (h′ : Head) (m : MaybeBucket) → T (validBucket m)
+        → ((b : ℕ) → b < buckets → refAt m b ≤ numberAt (h .«ref_counts») b)
+        → h′ .«ref_counts» ≡ lowerIf m (h .«ref_counts») → OneLess (stateWith h l) (stateWith h′ l) m
+    less h′ MaybeBucket.None ok refs e = e
+    less h′ (MaybeBucket.At b) ok refs e =
+        let n = numberAt (h .«ref_counts») (b .0) in
+        let below : b .0 < buckets = ltb→lt (b .0) buckets ok in
+        record {
+          pre-count = n;
+          remove-ref-counts = refl;
+          as-nat = omega (arith, refs (b .0) below, own b);
+          add-ref-counts = ap (λ (cs : List Count). numberAt cs (b .0)) e ∙ there b (n - 1) below;
+          elsewhere = others b (n - 1) e;
+        }
 
     -- a listed reader is counted
     counted : {x : Reader} {i : ℕ} → Split x l i → 1 ≤ numberAt (h .«ref_counts») (x .bucket .0)
@@ -218,14 +233,9 @@ module _ (h : Head) (l : List Reader) (q : Request) where
     fits17 : q .step ≡ 17 → Fits (decided h (depositLoadingToDone h q))
     fits17 step = ran (depositLoadingToDone h q) (λ _. roomy 17 step absurd absurd) λ p out o.
         let m = loadingBucket (h .«loading_state») in
-        let b = bucketOf m in
-        let n = numberAt (h .«ref_counts») (b .0) in
-        let has = has-bucket m (p .1 .0) in
         let k = given .loading (p .0) in
-        let below : b .0 < buckets = ltb→lt (b .0) buckets (rw has at (k .1)) in
-        let some : 1 ≤ n = omega (arith, s .counts (b .0) below, own m (p .1 .0)) in
-        Moves.deposit-loading-to-done m b n step (is-loading _ (p .0), refl) has refl (k .0, refl) refl some
-        (there b (n - 1) below) (others b (n - 1) refl) (search)
+        Moves.deposit-loading-to-done m step (is-loading _ (p .0), refl) refl (k .0, refl)
+        (less (depositLoadingToDone h q .head) m (k .1) (λ b below. omega (arith, s .counts b below)) refl) (search)
 
     fits18 : q .step ≡ 18 → Fits (decided h (excIncCount h q))
     fits18 step = ran (excIncCount h q) (λ p. roomy 18 step (λ _. ltb→lt here ceiling (p .1 .1 .0)) absurd) λ p out o.

@@ -16,17 +16,17 @@ use Rattle.kinds.specs.declared.{LoadingState.LoadingState}
 use Rattle.kinds.specs.Limits.{buckets, ceiling, capacity}
 use Rattle.readers.specs.Listed.{findIn}
 use Rattle.page_record.specs.declared.Head.{Head}
-use Rattle.page_record.specs.Holders.{isLoading}
+use Rattle.page_record.specs.Holders.{isLoading, validBucket}
 use Rattle.page_record.specs.Pages.{numberAt, headWith}
 use Rattle.soundness.proofs.Facts.{Sound}
 use Rattle.requests.specs.declared.Request.{Request}
 use Rattle.heads.specs.declared.Decision.{Decision}
 use Rattle.heads.specs.Decisions.{decided}
-use Rattle.heads.specs.Setters.{withNumber, raise, lower}
+use Rattle.heads.specs.Setters.{withNumber, raise, lower, lowerIf}
 use Rattle.reading.specs.Steps.{sharedDecCount}
 use Rattle.lock.specs.Step.{edited, lookFor, decidedOn}
 use Rattle.lock.specs.Moves.{Moves, Field, stateWith, countOf, Elsewhere, Absent, Only, Room, answerOf, obtained}
-use Rattle.lock.specs.Moves.{pending, pending2}
+use Rattle.lock.specs.Moves.{pending, pending2, OneLess}
 use Rattle.lock.proofs.Exact.Laws.{Accepts, stepNo, by-number, is-expected, find-first, is-set}
 use Rattle.lock.proofs.Exact.Flags.{is-released, is-claimed, is-awaited, done, lock-flag, is-open, unloaded}
 use Rattle.lock.proofs.Exact.Granted.{granted}
@@ -75,11 +75,18 @@ module _ (h : Head) (l : List Reader) (q : Request) (h′ : Head) (l′ : List R
       one-less : countOf (stateWith h′ l′) b ≡ n - 1 → lower (b .0) (h .«ref_counts») ≡ h′ .«ref_counts»
       one-less e = recounted (numberAt (h .«ref_counts») (b .0) - 1) (rw was e)
 
+  own-less : (m : MaybeBucket) → T (validBucket m) → OneLess (stateWith h l) (stateWith h′ l′) m
+      → lowerIf m (h .«ref_counts») ≡ h′ .«ref_counts»
+  own-less MaybeBucket.None ok same = sym same
+  own-less (MaybeBucket.At b) ok fewer =
+      one-less b (ltb→lt (b .0) buckets ok) (fewer .elsewhere) (fewer .pre-count) (fewer .remove-ref-counts)
+      (fewer .add-ref-counts)
+
   -- a loader's bucket is one of the four
-  loading-below : (b : Bucket) → h .«loading_state» ≡ LoadingState.Obtained (MaybeBucket.At b) → b .0 < buckets
-  loading-below b e =
+  loading-valid : (m : MaybeBucket) → h .«loading_state» ≡ LoadingState.Obtained m → T (validBucket m)
+  loading-valid m e =
       let t : T (isLoading (h .«loading_state»)) = rw e tt in
-      ltb→lt (b .0) buckets (rw e at (granted h (s .head) .loading t .1))
+      rw e at (granted h (s .head) .loading t .1)
 
   -- 20 to 22: the reader x leaves
   leaves : (x : Reader) (n : ℕ) (before after : List Reader)
@@ -142,10 +149,9 @@ module _ (h : Head) (l : List Reader) (q : Request) (h′ : Head) (l′ : List R
   takes (Moves.deposit-loading-to-shared bucket some step remove require update deposit add only) room =
       let free : length l < capacity = room .free (rw step tt) in
       step-is 16 step (rw (remove .0, require, lt-leb capacity (length l) free) (took (search)))
-  takes (Moves.deposit-loading-to-done bucket some n step remove require update deposit was as-nat is elsewhere only) room =
-      let below : some .0 < buckets = loading-below some (remove .0 ∙ ap LoadingState.Obtained require) in
-      let counts = one-less some below elsewhere n was is in
-      step-is 17 step (rw (remove .0, require) (took (search)))
+  takes (Moves.deposit-loading-to-done bucket step remove update deposit less only) room =
+      let counts = own-less bucket (loading-valid bucket (remove .0)) less in
+      step-is 17 step (rw (remove .0) (took (search)))
   takes (Moves.exc-inc-count none clean n step below remove require was add is elsewhere only) room =
       let under : countOf (stateWith h l) (q .bucket) < ceiling = room .under (rw step tt) in
       let counts = one-more (q .bucket) below elsewhere n was is in

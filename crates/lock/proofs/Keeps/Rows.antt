@@ -158,8 +158,13 @@ module _ (l : List Reader) (q : Request) (inside : q .bucket .0 < buckets) (foun
     cells = (λ _ _. kept-quiet s (shaped (loading (MaybeBucket.At b)) cs ok) (λ b k t. t) (counts-of s)) & any s;
     others = tt;
   }
-  -- a loader without a bucket can't put the page back
-  table (loading MaybeBucket.None) cs s ok = record { numbers = readerSteps; cells = any s; others = tt }
+  -- 17 to available
+  table (loading MaybeBucket.None) cs s ok = record {
+    numbers = 17 ∷ readerSteps;
+    cells =
+        (λ _ _. kept s (shaped (available (q .value)) cs tt) (opens MaybeBucket.None (q .value) cs cs) (counts-of s)) & any s;
+    others = tt;
+  }
   -- 16 and 17 to available
   table (loading (MaybeBucket.At b)) cs s ok = record {
     numbers = 16 ∷ 17 ∷ readerSteps;

@@ -203,7 +203,7 @@ module _ (p : Page) (within : Bounds p) (b : Bucket) (clean value : ℕ) where
   tabled16 = rw is-full (premised-tabled true (isLoading (p .«loading_state»)) load-bucket true true true full)
 
   tabled17 : Tabled 17
-  tabled17 = premised-tabled true (isLoading (p .«loading_state»)) load-bucket true true true false
+  tabled17 = flag-holder true (isLoading (p .«loading_state»))
 
   tabled18 : Tabled 18
   tabled18 =

@@ -16,21 +16,11 @@ deposit-loading-to-done-spec =
       c .refuse .ensures,
       not-loading (c .before .before .args .h .«loading_state») (c .before .match .keys2),
     ))
-    (λ c. search needs)
-    (λ c. search needs)
-    (λ c κs. tt)
-    (λ c.
-    simp (
-      c .refuse2 .ensures,
-      c .before .enum-told .given .1,
-      c .before .before .before .before .loading .given .1,
-    ))
     (λ c κs. tt)
     (λ c κs. tt)
     (λ c.
     simp (
       c .deposit-loading .ensures,
-      c .before .lower .ensures,
-      c .before .before .before .bucket .given .1,
-      c .before .before .before .before .before .before .loading .given .1,
+      c .before .lower-if .ensures,
+      c .before .before .before .loading .given .1,
     )))
