@@ -5,6 +5,7 @@
 
 use std::io::{self, BufReader, BufWriter, Read, Write};
 
+use crate::image::{read_image, write_image};
 use crate::kinds::{answer_number, Answer, Refusal, Request};
 use crate::raw::{read_raw, reader_bytes};
 use crate::record::{census, fresh, judge_record, lowest_broken_rule, Page};
@@ -127,6 +128,8 @@ impl Drill {
             5 => write_back(payload, a),
             6 => self.look(),
             7 => self.raw(payload),
+            8 => self.read_image(payload),
+            9 => self.write_image(a),
             _ => return None,
         })
     }
@@ -168,6 +171,18 @@ impl Drill {
         };
         self.page = page;
         answer(Ok(None))
+    }
+
+    fn read_image(&mut self, payload: &[u8]) -> Vec<u8> {
+        let outcome = read_image(payload);
+        self.page = outcome.page;
+        answer(outcome.answer)
+    }
+
+    fn write_image(&self, room: u64) -> Vec<u8> {
+        let mut bytes = buffer(room);
+        let written = write_image(&self.page, &mut bytes);
+        with_buffer(written, &bytes)
     }
 }
 

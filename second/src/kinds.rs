@@ -240,6 +240,10 @@ pub enum Refusal {
     TooMany = 13,
     /// The answer space is too small.
     NoRoom = 14,
+    /// An image has not its length, or the buffer for one is too small.
+    ImageLength = 15,
+    /// The bytes are not the image of a sound record.
+    NotImage = 16,
 }
 
 /// What a request is answered: accepted, with the value if one was withdrawn,

@@ -7,6 +7,7 @@
 //! `drill` does them; whatever stream goes in, both drills must write the same.
 
 pub mod drill;
+pub mod image;
 pub mod kinds;
 pub mod ops;
 pub mod raw;

@@ -1,5 +1,6 @@
 //! A page as raw bytes, in the layout of an image. Nothing is judged: this is
-//! how a page that breaks the rules comes in.
+//! how a page that breaks the rules comes in. The table of places is the
+//! image's as well.
 
 use crate::kinds::{
     BucketId, Count, ExcState, Flag, LoadingState, SharedState, Visited, WritebackState, CAPACITY,
@@ -11,9 +12,11 @@ use crate::wire::{value_at, RECORD};
 /// The bytes of one page.
 pub const IMAGE: usize = place::READERS + CAPACITY * RECORD;
 
-/// Where each field begins.
+/// Where each field begins, and what is between the fields.
 #[allow(missing_docs)]
 pub mod place {
+    use std::ops::Range;
+
     pub const FLAG: usize = 0;
     pub const STORAGE_IN: usize = 1;
     pub const LENGTH: usize = 2;
@@ -29,6 +32,7 @@ pub mod place {
     pub const EXC_VALUE: usize = 40;
     pub const WRITEBACK: usize = 48;
     pub const READERS: usize = 64;
+    pub const GAPS: [Range<usize>; 3] = [11..16, 20..32, 56..64];
 }
 
 /// How a holder that can have a bucket says that it has none.
@@ -121,7 +125,29 @@ fn read_reader(line: &[u8]) -> Option<SharedState> {
     }
 }
 
-/// The bytes that say this page, with zero wherever nothing is looked at.
+/// Every place whose byte says nothing: the gaps, and whatever the kinds that
+/// stand there do not have. It is passed over here, and an image has zero there.
+pub fn unlooked(bytes: &[u8; IMAGE]) -> Vec<usize> {
+    let exc_kind = bytes[place::EXC_KIND];
+    let mut places: Vec<usize> = place::GAPS.into_iter().flatten().collect();
+    let mut add = |unlooked: bool, from: usize, length: usize| {
+        places.extend((from..from + length).filter(|_| unlooked));
+    };
+    add(bytes[place::STORAGE_IN] == 0, place::STORAGE, 8);
+    add(bytes[place::WRITEBACK_IN] == 0, place::WRITEBACK, 8);
+    add(exc_kind == 0, place::EXC_BUCKET, 1);
+    add(exc_kind != 3, place::VISITED, 1);
+    add(matches!(exc_kind, 0 | 4), place::EXC_VALUE, 8);
+    add(bytes[place::LOADER_KIND] < 2, place::LOADER_BUCKET, 1);
+    for entry in (place::READERS..IMAGE).step_by(RECORD) {
+        add(true, entry + 2, 6);
+        add(bytes[entry] < 3, entry + 8, 8);
+    }
+    places
+}
+
+/// The bytes that say this page, with zero wherever nothing is looked at. Those
+/// of a sound page are its image.
 pub fn write_raw(page: &Page) -> [u8; IMAGE] {
     let mut bytes = [0; IMAGE];
     bytes[place::FLAG] = page.flag.number();

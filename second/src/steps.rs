@@ -7,7 +7,8 @@ use crate::kinds::{
 };
 use crate::record::{judge_record, Page};
 
-/// What a step leaves: the next record, and the answer.
+/// What a step leaves, and what reading an image does: the next record, and the
+/// answer.
 #[derive(Clone, Debug, PartialEq, Eq)]
 #[allow(missing_docs)]
 pub struct Outcome {

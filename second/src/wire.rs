@@ -83,6 +83,8 @@ fn refusal(number: u8) -> Option<Refusal> {
         12 => Refusal::NotWhole,
         13 => Refusal::TooMany,
         14 => Refusal::NoRoom,
+        15 => Refusal::ImageLength,
+        16 => Refusal::NotImage,
         _ => return None,
     })
 }

@@ -124,6 +124,8 @@ fn refusal_words(step: u8, refusal: Refusal) -> &'static str {
         Refusal::NotWhole => "not whole requests",
         Refusal::TooMany => "too many requests",
         Refusal::NoRoom => "too little space for the answers",
+        Refusal::ImageLength => "not the length of an image",
+        Refusal::NotImage => "not the image of a sound record",
     }
 }
 

@@ -131,11 +131,13 @@ fn answers_and_back() {
         Err(Refusal::NotWhole),
         Err(Refusal::TooMany),
         Err(Refusal::NoRoom),
+        Err(Refusal::ImageLength),
+        Err(Refusal::NotImage),
     ];
     for answer in answers {
         assert_eq!(read_answer(&answer_bytes(&answer)), Some(answer));
     }
-    for (number, answer) in (1..=14).zip(&answers[4..]) {
+    for (number, answer) in (1..=16).zip(&answers[4..]) {
         assert_eq!(answer_bytes(answer)[0], number);
         assert_eq!(answer_bytes(answer)[1..], [0; 15]);
     }
@@ -159,7 +161,7 @@ fn other_bytes_are_no_answer() {
         line[place] = byte;
         read_answer(&line)
     };
-    assert_eq!(with(0, 15, 0), None, "no such number");
+    assert_eq!(with(0, 17, 0), None, "no such number");
     assert_eq!(with(1, 2, 0), None, "neither 0 nor 1");
     assert_eq!(with(1, 1, 5), None, "a refusal with a value");
     assert_eq!(with(8, 1, 5), None, "a refusal with a value");

@@ -120,8 +120,8 @@ fn a_payload_may_have_65536_bytes_and_no_more() {
 }
 
 #[test]
-fn only_operations_1_to_7_are_listed() {
-    for number in (0..=255).filter(|number| !(1..=7).contains(number)) {
+fn only_operations_1_to_9_are_listed() {
+    for number in (0..=255).filter(|number| !(1..=9).contains(number)) {
         ends(&op(number, 0, &[]));
         ends(&op(number, 16, &ask(19, 0, 0, 0)));
     }
@@ -450,6 +450,9 @@ fn a_buffer_has_65536_bytes_at_most() {
             let number = if number == 4 { 0 } else { 2 };
             assert_eq!(written, [line(number), vec![170; 65_536]].concat());
         }
+        let written = answers(&[op(9, a, &[])]);
+        let expected = [line(0), raw(&[]), vec![170; 65_536 - 1_088]];
+        assert_eq!(written, expected.concat());
     }
     let written = answers(&[op(4, 65_535, &[]), look()]);
     assert_eq!(
@@ -583,6 +586,11 @@ fn a_look_at_a_busy_page() {
 /// all the way.
 #[test]
 fn the_holders_of_a_raw_page_act() {
+    busy_page_acts(7, &busy());
+}
+
+/// The page that this operation makes of these bytes is the busy one.
+fn busy_page_acts(operation: u8, payload: &[u8]) {
     let value = 0x0807_0605_0403_0201;
     let requests = [
         (ask(6, 0, 1, 0), line(6)),
@@ -606,7 +614,7 @@ fn the_holders_of_a_raw_page_act() {
         (ask(18, 0, 0, 0), line(7)),
         (ask(9, 0, 0, 9), line(0)),
     ];
-    let mut stream = op(7, 0, &busy());
+    let mut stream = op(operation, 0, payload);
     let mut expected = line(0);
     for (request, answer) in requests {
         stream.extend(op(3, 0, &request));
@@ -868,6 +876,109 @@ fn a_raw_page_replaces_the_one_before() {
     assert_eq!(answers(&stream), expected);
     let stream = [op(7, 0, &unsound()), op(1, 0, &[]), look()];
     assert_eq!(answers(&stream), expected);
+}
+
+// Operations 8 and 9.
+
+/// The image of the busy page: it has zeros where nothing looks at a raw page.
+fn busy_image() -> Vec<u8> {
+    let value = [1, 2, 3, 4, 5, 6, 7, 8];
+    let mut image = vec![0; 1_088];
+    image[..11].copy_from_slice(&[6, 1, 3, 0, 1, 2, 0, 0, 0, 0, 1]);
+    image[16..20].copy_from_slice(&[1, 0, 2, 1]);
+    image[32..56].copy_from_slice(&value.repeat(3));
+    image[64..66].copy_from_slice(&[3, 2]);
+    image[72..80].copy_from_slice(&value);
+    image[80..82].copy_from_slice(&[1, 0]);
+    image[96..98].copy_from_slice(&[2, 3]);
+    image
+}
+
+#[test]
+fn operation_9_writes_the_image_and_leaves_the_rest_of_its_buffer() {
+    for more in [0, 1, 100] {
+        let stream = [
+            op(9, 1_088 + more, &[]),
+            op(7, 0, &busy()),
+            op(9, 1_088 + more, &[]),
+        ];
+        let rest = vec![170; more as usize];
+        let expected = [
+            line(0),
+            raw(&[]),
+            rest.clone(),
+            line(0),
+            line(0),
+            busy_image(),
+            rest,
+        ];
+        assert_eq!(answers(&stream), expected.concat());
+    }
+}
+
+#[test]
+fn operation_9_refuses_1_and_then_15_and_writes_the_buffer_out() {
+    for room in [0, 1, 16, 1_087, 1_088, 1_089, 2_000] {
+        let rest = vec![170; room as usize];
+        let stream = [op(7, 0, &unsound()), op(9, room, &[]), look()];
+        let expected = [line(0), line(1), rest.clone(), UNSOUND.to_vec()];
+        assert_eq!(answers(&stream), expected.concat());
+        if room < 1_088 {
+            let stream = [op(9, room, &[]), look()];
+            let expected = [line(15), rest, FRESH.to_vec()];
+            assert_eq!(answers(&stream), expected.concat());
+        }
+    }
+}
+
+#[test]
+fn operation_9_leaves_the_page_and_drops_its_payload() {
+    let stream = [
+        op(2, 0, &ask(19, 3, 0, 0)),
+        op(9, 0, &busy_image()),
+        op(9, 1_088, &[255; 33]),
+    ];
+    let one = raw(&[(2, 1), (19, 1), (64, 1), (65, 3)]);
+    let expected = [line(0), line(15), line(0), one].concat();
+    assert_eq!(answers(&stream), expected);
+}
+
+#[test]
+fn operation_8_makes_the_page_that_the_image_says() {
+    let stream = [op(8, 77, &busy_image()), op(9, 1_088, &[]), look()];
+    let seen = answers(&[op(7, 0, &busy()), look()]);
+    let expected = [&line(0)[..], &seen[..16], &busy_image(), &seen[16..]];
+    assert_eq!(answers(&stream), expected.concat());
+    busy_page_acts(8, &busy_image());
+}
+
+/// Whatever the page was before, sound or not.
+#[test]
+fn operation_8_gives_a_fresh_page_of_0_where_it_refuses() {
+    let long = [busy_image(), busy_image()].concat();
+    let mut refused: Vec<(&[u8], u8)> = Vec::new();
+    for length in [0, 1, 16, 1_087, 1_089, 2_176] {
+        refused.push((&long[..length], 15));
+    }
+    let raw_page = busy();
+    let unsound = unsound();
+    refused.extend([(&raw_page[..], 16), (&unsound, 16), (&[255; 1_088], 16)]);
+    for (payload, refusal) in refused {
+        for before in [&busy(), &unsound] {
+            let stream = [op(7, 0, before), op(8, 0, payload), look()];
+            let expected = [line(0), line(refusal), FRESH.to_vec()];
+            assert_eq!(answers(&stream), expected.concat());
+        }
+        let stream = [
+            op(1, 5, &[]),
+            op(8, 5, payload),
+            op(2, 0, &ask(12, 0, 0, 0)),
+        ];
+        let mut withdrawn = line(0);
+        withdrawn[1] = 1;
+        let expected = [line(0), line(refusal), withdrawn].concat();
+        assert_eq!(answers(&stream), expected, "the value is 0");
+    }
 }
 
 // The program as a process.

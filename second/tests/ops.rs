@@ -45,7 +45,7 @@ fn a_stream_is_made_the_same_again() {
 #[test]
 fn the_first_stream_is_small() {
     let stream = short(1);
-    assert!((80_000..=125_000).contains(&stream.len()));
+    assert!((80_000..=150_000).contains(&stream.len()));
     assert!(answers(&stream).len() <= 250_000);
 }
 
@@ -76,13 +76,46 @@ struct Seen {
     written: BTreeSet<u8>,
     /// The numbers that were given to raw pages.
     raw: BTreeSet<u8>,
+    /// The numbers that were given to images that were read, and to images that
+    /// were written, with the room.
+    images_read: BTreeSet<u8>,
+    images_written: BTreeSet<(u8, u64)>,
     /// What looks told: soundness and the lowest broken rule.
     rules: BTreeSet<(u8, u8)>,
     /// What was there when somebody looked: flags, and kinds of holders.
     flags: BTreeSet<u8>,
     holders: BTreeSet<String>,
+    /// The same of the pages that were read and of those that were written, and
+    /// the phases of readers.
+    restored: Kept,
+    kept: Kept,
     /// All operations.
     operations: BTreeSet<u8>,
+}
+
+/// What occurs in the images of a stream.
+#[derive(Default)]
+struct Kept {
+    flags: BTreeSet<u8>,
+    holders: BTreeSet<String>,
+    phases: BTreeSet<usize>,
+    most_readers: usize,
+    highest_count: u8,
+    values: BTreeSet<StoredType>,
+}
+
+impl Kept {
+    fn add(&mut self, page: &Page) {
+        let readers = page.shared_state.listed();
+        self.flags.insert(page.flag.number());
+        self.holders.extend(holders(page));
+        self.phases
+            .extend(readers.iter().map(|reader| reader.phase()));
+        self.most_readers = self.most_readers.max(readers.len());
+        let highest = page.ref_counts.iter().map(|count| count.0).max();
+        self.highest_count = self.highest_count.max(highest.unwrap());
+        self.values.extend(page.storage);
+    }
 }
 
 impl Seen {
@@ -107,7 +140,23 @@ impl Seen {
             5 => _ = self.written.insert(written[0]),
             6 => self.looked(written, page),
             7 => _ = self.raw.insert(written[0]),
+            8 => self.read(written[0], page),
+            9 => self.wrote(written[0], operation.a, page),
             _ => (),
+        }
+    }
+
+    fn read(&mut self, number: u8, page: &Page) {
+        self.images_read.insert(number);
+        if number == 0 {
+            self.restored.add(page);
+        }
+    }
+
+    fn wrote(&mut self, number: u8, room: u64, page: &Page) {
+        self.images_written.insert((number, room));
+        if number == 0 {
+            self.kept.add(page);
         }
     }
 
@@ -131,11 +180,17 @@ impl Seen {
         self.rules.insert((written[0], written[1]));
         self.flags.insert(written[16]);
         if written[0] == 0 {
-            self.holders.insert(name(&page.exc_state));
-            self.holders.insert(name(&page.loading_state));
-            self.holders.insert(name(&page.writeback_state));
+            self.holders.extend(holders(page));
         }
     }
+}
+
+fn holders(page: &Page) -> [String; 3] {
+    [
+        "exc ".to_string() + &name(&page.exc_state),
+        "loading ".to_string() + &name(&page.loading_state),
+        name(&page.writeback_state),
+    ]
 }
 
 /// The kind of a holder, and whether it has a bucket.
@@ -168,21 +223,54 @@ fn everything(seen: &Seen) {
     let rules: BTreeSet<_> = (0..=8).map(|rule| (u8::from(rule > 0), rule)).collect();
     assert_eq!(seen.rules, rules);
     assert_eq!(seen.flags, set(0..=10));
-    assert_eq!(seen.operations, set(1..=7));
-    let holders = [
-        "None",
-        "Some(Claim",
-        "Some(Claim without",
-        "Some(Obtained",
-        "Some(Obtained without",
-        "Some(Pending",
-        "Some(PendingAwaitWriteback",
-        "Some(PendingCounted",
-        "Some(WritebackState",
-    ];
-    for holder in holders {
-        assert!(seen.holders.contains(holder), "{holder} {:?}", seen.holders);
+    assert_eq!(seen.operations, set(1..=9));
+    for holders in [&seen.holders, &seen.kept.holders] {
+        assert!(HOLDERS.iter().all(|&holder| holders.contains(holder)));
     }
+    images(seen);
+}
+
+const HOLDERS: [&str; 14] = [
+    "exc None",
+    "exc Some(Claim",
+    "exc Some(Claim without",
+    "exc Some(PendingAwaitWriteback",
+    "exc Some(Pending",
+    "exc Some(Obtained",
+    "exc Some(Obtained without",
+    "loading None",
+    "loading Some(Pending",
+    "loading Some(PendingCounted",
+    "loading Some(Obtained",
+    "loading Some(Obtained without",
+    "None",
+    "Some(WritebackState",
+];
+
+/// What one short stream has to have of images.
+fn images(seen: &Seen) {
+    assert_eq!(seen.images_read, set([0, 15, 16]));
+    for room in [0, 1, 1_087, 1_088, 1_089, 1_188] {
+        let number = if room < 1_088 { 15 } else { 0 };
+        for number in [1, number] {
+            assert!(seen.images_written.contains(&(number, room)), "{room}");
+        }
+    }
+    assert_eq!(seen.kept.flags, set(0..=10));
+    for images in [&seen.kept, &seen.restored] {
+        assert_eq!(images.phases.len(), 3);
+        assert_eq!(images.most_readers, 64);
+        assert_eq!(images.highest_count, 31);
+        for value in [0, 0x0807_0605_0403_0201, StoredType::MAX] {
+            assert!(images.values.contains(&value), "{value}");
+        }
+    }
+    let kinds = |holders: &BTreeSet<String>| -> BTreeSet<String> {
+        let kind = |holder: &String| holder.trim_end_matches(" without").to_string();
+        holders.iter().map(kind).collect()
+    };
+    let all = HOLDERS.map(String::from).into();
+    assert!(kinds(&seen.restored.holders).is_superset(&kinds(&all)));
 }
 
 #[test]
@@ -201,9 +289,14 @@ fn forty_streams_have_everything_in_every_manner() {
     for manner in [BY_VALUE, LENT, IN_A_RUN] {
         assert_eq!(seen.accepted[manner], set(1..=24));
     }
+    assert_eq!(seen.restored.flags, set(0..=10));
+    assert!(HOLDERS
+        .iter()
+        .all(|&holder| seen.restored.holders.contains(holder)));
     seen = Seen::of([long(41)].into_iter());
     everything(&seen);
     assert_eq!(seen.runs, set([0, 1, 12, 13, 14]));
+    assert_eq!(seen.restored.flags, set(0..=10));
     for manner in [BY_VALUE, LENT, IN_A_RUN] {
         assert_eq!(seen.accepted[manner], set(1..=24));
     }
@@ -295,8 +388,11 @@ fn a_long_stream_has_what_is_expensive() {
         assert!(has(4, length), "{length}");
     }
     assert!(has(1, 65_536));
-    for number in [4, 5] {
-        let large: BTreeSet<u64> = (1..=10)
+    for length in [0, 1, 1_087, 1_088, 1_089, 2_176, 65_536] {
+        assert!(has(8, length), "{length}");
+    }
+    for number in [4, 5, 9] {
+        let large: BTreeSet<u64> = (1..=15)
             .flat_map(|seed| common::operations(&short(seed)).0)
             .filter(|operation| operation.number == number)
             .map(|operation| operation.a)
@@ -305,6 +401,52 @@ fn a_long_stream_has_what_is_expensive() {
             assert!(large.contains(&a), "{number} {a}");
         }
     }
+}
+
+/// The payloads that were read as images, and all images that were written.
+fn payloads_and_images(stream: &[u8]) -> (Vec<Vec<u8>>, BTreeSet<Vec<u8>>) {
+    let mut drill = Drill::start();
+    let mut payloads = Vec::new();
+    let mut images = BTreeSet::new();
+    for operation in operations(stream).0 {
+        let written = drill.perform(&operation).unwrap();
+        match operation.number {
+            8 => payloads.push(operation.payload),
+            9 if written[0] == 0 => _ = images.insert(written[16..16 + 1_088].to_vec()),
+            _ => (),
+        }
+    }
+    (payloads, images)
+}
+
+/// The place at which alone the two are different, if that is so.
+fn one_difference(left: &[u8], right: &[u8]) -> Option<usize> {
+    let mut places = (0..1_088).filter(|&place| left[place] != right[place]);
+    let place = places.next()?;
+    places.next().is_none().then_some(place)
+}
+
+/// The places at which alone a payload is another than some image.
+fn damaged_places(stream: &[u8]) -> BTreeSet<usize> {
+    let (payloads, images) = payloads_and_images(stream);
+    payloads
+        .iter()
+        .filter(|payload| payload.len() == 1_088)
+        .flat_map(|payload| images.iter().map(|image| one_difference(image, payload)))
+        .flatten()
+        .collect()
+}
+
+/// The entries are the first one, the first one past the length, and the last.
+#[test]
+fn images_are_damaged_at_every_place_of_the_head_and_of_entries() {
+    let places = damaged_places(&long(4));
+    for place in (0..64).chain(64..80).chain(160..176).chain(1_072..1_088) {
+        assert!(places.contains(&place), "{place}");
+    }
+    let streams = (1..=40).map(short);
+    let places: BTreeSet<usize> = streams.flat_map(|stream| damaged_places(&stream)).collect();
+    assert!(places.is_superset(&(20..32).chain(1_080..1_088).collect()));
 }
 
 #[test]

@@ -54,7 +54,7 @@ plain-zero (Answer.Withdrew v) w = absurd (true≢false w)
 plain-zero (Answer.Refused why) w = (λ e. ap answerNumber e, λ e. absurd (omega (arith, e, refusal-above why)))
 
 -- accepted just if no number of the table applies
-accepts-none : (a : Answer) (cs : List (ℕ × Bool)) → withdraws a ≡ false → answerNumber a ≡ firstApplying cs
+pub accepts-none : (a : Answer) (cs : List (ℕ × Bool)) → withdraws a ≡ false → answerNumber a ≡ firstApplying cs
     → ((firstApplying cs ≡ 0) ↔ ((n : ℕ) → appliesIn cs n ≡ false)) → (a ≡ Answer.Accepted) ↔ ((n : ℕ) → appliesIn cs n ≡ false)
 accepts-none a cs plain e none = (
   λ f. none .0 (sym e ∙ plain-zero a plain .0 f),

@@ -3,15 +3,20 @@ use mathlib.Core.Path.{_≡_, refl}
 use mathlib.Core.List.{[], _∷_}
 use lib.Dec.{T}
 use Rattle.laws.specs.Lists.{every}
+use Rattle.kinds.specs.Numbers.{flagFrom, storageFrom, bucketFrom, phaseFrom, excFrom, loadingFrom, writebackFrom}
 use Rattle.readers.specs.Listed.{noReaders, pushed, putAt, removedAt}
 use Rattle.page_record.specs.Pages.{freshPage}
 use Rattle.soundness.specs.Soundness.{soundOf, lowestBroken}
 use Rattle.requests.specs.Requests.{judged}
 use Rattle.steps.specs.Decide.{decideOf, soughtOf}
 use Rattle.lock.specs.Step.{stepOf, lookFor, editedIn}
+use Rattle.wire.specs.Bytes.{lineWith}
+use Rattle.image.specs.Images.{kindBytes, countBytes, valueBytes, entries, imageOf}
+use Rattle.image.specs.Decoding.{u64At, excFromBytes, headFrom, readerFrom, readersFrom, pageFrom}
+use Rattle.image.specs.Keeping.{isImage, readVerdict, restoredFrom}
 use Rattle.replay.specs.Run.{runVerdict}
 use Rattle.demands.specs.Exhibits.{exhibited, flags, shown, holders, everyStepTaken, breakEach, brokenPages}
-use Rattle.demands.specs.Exhibits.{answered, trials, wholeNumbers, refusesRightly, premises}
+use Rattle.demands.specs.Exhibits.{answered, trials, wholeNumbers, refusesRightly, premises, resumes, resumed}
 
 -- a sound record for each of the eleven flags
 pub flags-exhibited : T (every exhibited flags)
@@ -47,3 +52,10 @@ runs-exhibited = refl
 pub flags-refused : T (every refusesRightly premises)
 unfolding stepOf lookFor editedIn judged decideOf soughtOf soundOf lowestBroken noReaders pushed putAt removedAt freshPage
 flags-refused = tt
+
+-- pages that were read go on
+pub restarts-exhibited : T (every resumes resumed)
+unfolding stepOf lookFor editedIn judged decideOf soughtOf soundOf lowestBroken noReaders pushed putAt removedAt freshPage
+    imageOf kindBytes countBytes valueBytes entries lineWith pageFrom headFrom excFromBytes u64At readerFrom readersFrom isImage readVerdict
+    restoredFrom flagFrom storageFrom bucketFrom phaseFrom excFrom loadingFrom writebackFrom
+restarts-exhibited = tt

@@ -5,6 +5,8 @@ pub mod Demand1
 pub mod Demand2
 pub mod Demand3
 pub mod Lines
+pub mod Before
+pub mod Restart
 pub mod Cases
 pub mod Exhibits
 pub mod NoSecond

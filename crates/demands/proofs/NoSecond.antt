@@ -24,6 +24,18 @@ use Rattle.kinds.proofs.not_loading.Reads as not-loading-contract
 use Rattle.kinds.proofs.open_to_readers.Reads as open-to-readers-contract
 use Rattle.kinds.proofs.released.Reads as released-contract
 use Rattle.kinds.proofs.writeback_done.Reads as writeback-done-contract
+use Rattle.kinds.proofs.bucket_from.Reads as bucket-from-contract
+use Rattle.kinds.proofs.bucket_number.Reads as bucket-number-contract
+use Rattle.kinds.proofs.exc_from.Reads as exc-from-contract
+use Rattle.kinds.proofs.exc_number.Reads as exc-number-contract
+use Rattle.kinds.proofs.flag_from.Reads as flag-from-contract
+use Rattle.kinds.proofs.loading_from.Reads as loading-from-contract
+use Rattle.kinds.proofs.loading_number.Reads as loading-number-contract
+use Rattle.kinds.proofs.phase_from.Reads as phase-from-contract
+use Rattle.kinds.proofs.storage_from.Reads as storage-from-contract
+use Rattle.kinds.proofs.storage_number.Reads as storage-number-contract
+use Rattle.kinds.proofs.writeback_from.Reads as writeback-from-contract
+use Rattle.kinds.proofs.writeback_number.Reads as writeback-number-contract
 use Rattle.kinds.proofs.phase_number.Reads as phase-number-contract
 use Rattle.readers.proofs.same.Reads as same-contract
 use Rattle.readers.proofs.blank.Reads as blank-contract
@@ -117,8 +129,13 @@ use Rattle.lock.proofs.apply as apply-contract
 use Rattle.lock.proofs.lend.Reads as lend-contract
 use Rattle.wire.proofs.read_u64.Reads as read-u64-contract
 use Rattle.wire.proofs.read.Reads as read-contract
+use Rattle.wire.proofs.write_u64.Reads as write-u64-contract
+use Rattle.wire.proofs.put.Reads as put-line-contract
 use Rattle.wire.proofs.write.Reads as write-contract
 use Rattle.wire.proofs.write_answer.Reads as write-answer-contract
+use Rattle.image.proofs.decode.Reads as decode-contract
+use Rattle.image.proofs.read.Reads as read-image-contract
+use Rattle.image.proofs.write.Reads as write-image-contract
 use Rattle.replay.proofs.run.Reads as run-contract
 use Rattle.replay.proofs.reply.Reads as reply-contract
 
@@ -136,7 +153,7 @@ abbrev pub AtMostOneWith : {K I R O B : Type 0} → (O → B) → Contract K I R
 AtMostOneWith {K} {I} {R} {O} lent Post = (κ : K) (i : I) (o o′ : O) (x y : R) → Post κ i x o → Post κ i y o′
     → (x ≡ y) × (lent o ≡ lent o′)
 
--- ---- the two laws
+-- ---- the three laws
 -- an equation
 pub equation : {K I R O : Type 0} (f : I → R) → AtMostOne (λ (κ : K) (i : I) (r : R) (o : O). r ≡ f i)
 equation f κ i o o′ x y d e = d ∙ sym e
@@ -145,6 +162,10 @@ equation f κ i o o′ x y d e = d ∙ sym e
 pub equations : {K I R O B : Type 0} (lent : O → B) (f : I → R) (g : I → B)
     → AtMostOneWith lent (λ (κ : K) (i : I) (r : R) (o : O). (r ≡ f i) × (lent o ≡ g i))
 equations lent f g κ i o o′ x y d e = (d .0 ∙ sym (e .0), d .1 ∙ sym (e .1))
+
+-- an equation for what is lent alone, where nothing is answered
+pub filling : {K I O B : Type 0} (lent : O → B) (g : I → B) → AtMostOneWith lent (λ (κ : K) (i : I) (r : Unit {0}) (o : O). lent o ≡ g i)
+filling lent g κ i o o′ x y d e = (refl, d ∙ sym e)
 
 -- ---- kinds
 pub awaited : AtMostOne awaited-contract.Post
@@ -179,6 +200,42 @@ released = equation _
 
 pub writeback-done : AtMostOne writeback-done-contract.Post
 writeback-done = equation _
+
+pub bucket-from : AtMostOne bucket-from-contract.Post
+bucket-from = equation _
+
+pub bucket-number : AtMostOne bucket-number-contract.Post
+bucket-number = equation _
+
+pub exc-from : AtMostOne exc-from-contract.Post
+exc-from = equation _
+
+pub exc-number : AtMostOne exc-number-contract.Post
+exc-number = equation _
+
+pub flag-from : AtMostOne flag-from-contract.Post
+flag-from = equation _
+
+pub loading-from : AtMostOne loading-from-contract.Post
+loading-from = equation _
+
+pub loading-number : AtMostOne loading-number-contract.Post
+loading-number = equation _
+
+pub phase-from : AtMostOne phase-from-contract.Post
+phase-from = equation _
+
+pub storage-from : AtMostOne storage-from-contract.Post
+storage-from = equation _
+
+pub storage-number : AtMostOne storage-number-contract.Post
+storage-number = equation _
+
+pub writeback-from : AtMostOne writeback-from-contract.Post
+writeback-from = equation _
+
+pub writeback-number : AtMostOne writeback-number-contract.Post
+writeback-number = equation _
 
 pub phase-number : AtMostOne phase-number-contract.Post
 phase-number = equation _
@@ -470,6 +527,12 @@ lend = equation _
 pub read-u64 : AtMostOne read-u64-contract.Post
 read-u64 = equation _
 
+pub write-u64 : AtMostOneWith (λ o. o .0 .now) write-u64-contract.Post
+write-u64 = filling (λ o. o .0 .now) _
+
+pub put-line : AtMostOneWith (λ o. o .0 .now) put-line-contract.Post
+put-line = equations (λ o. o .0 .now) _ _
+
 pub read : AtMostOne read-contract.Post
 read = equation _
 
@@ -478,6 +541,16 @@ write = equations (λ o. o .1 .0 .now) _ _
 
 pub write-answer : AtMostOneWith (λ o. o .1 .0 .now) write-answer-contract.Post
 write-answer = equations (λ o. o .1 .0 .now) _ _
+
+-- ---- image
+pub decode : AtMostOne decode-contract.Post
+decode = equation _
+
+pub read-image : AtMostOne read-image-contract.Post
+read-image = equation _
+
+pub write-image : AtMostOneWith (λ o. o .1 .0 .now) write-image-contract.Post
+write-image = equations (λ o. o .1 .0 .now) _ _
 
 -- ---- replay
 pub run : AtMostOneWith (λ o. o .1 .1 .0 .now) run-contract.Post

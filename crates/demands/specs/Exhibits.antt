@@ -1,11 +1,11 @@
--- What shows that no statement is empty: a sound record for each flag and each kind of holder, each step accepted somewhere, each
--- number given somewhere, each rule broken alone somewhere. Last, where soundness and demand 3 see nothing, under which flags a flag
--- premise refuses.
+-- What shows that no statement is empty: a sound record for each flag and each kind of holder, each step accepted somewhere, each rule
+-- broken alone somewhere, pages that were read and go on, each number given somewhere (15 and 16 by the samples of `image`). Last, where
+-- soundness and demand 3 see nothing, under which flags a flag premise refuses.
 use Prim.Native.Nat.{ℕ, zero, suc, _+_, _-_, _*_, _/_}
 use mathlib.Core.Bool.{Bool, true, false, not, _&&_, Bool·beq}
 use mathlib.Core.List.{List, [], _∷_, _++_, map}
 use lib.Dec.{eqb}
-use lib.ListN.{replicate}
+use lib.ListN.{getD, replicate}
 use Rattle.laws.specs.Lists.{every, among}
 use Rattle.kinds.specs.declared.{Flag.Flag, MaybeBucket.MaybeBucket, Storage.Storage, Phase.Phase, Reader.Reader}
 use Rattle.kinds.specs.declared.{ExcState.ExcState, LoadingState.LoadingState, WritebackState.WritebackState}
@@ -14,8 +14,9 @@ use Rattle.kinds.specs.Numbers.{flagNumber, excNumber, loadingNumber, writeback
 use Rattle.readers.specs.declared.Readers.{Readers}
 use Rattle.readers.specs.Listed.{live, listed, noReaders}
 use Rattle.page_record.specs.declared.Page.{Page}
-use Rattle.page_record.specs.Holders.{hasBucket, excBucket, loadingBucket}
+use Rattle.page_record.specs.Holders.{isStored, hasBucket, excBucket, loadingBucket}
 use Rattle.page_record.specs.Pages.{headOf, pageOf, freshPage, headWith}
+use Rattle.rules.specs.Rules.{everyBucket}
 use Rattle.soundness.specs.Soundness.{rules, lowestBroken, soundOf}
 use Rattle.requests.specs.declared.{Request.Request, Verdict.Verdict}
 use Rattle.requests.specs.Answers.{answerNumber}
@@ -24,7 +25,9 @@ use Rattle.heads.specs.Setters.{withNumber}
 use Rattle.lock.specs.Step.{stepOf}
 use Rattle.wire.specs.Buffers.{answerFor}
 use Rattle.replay.specs.Run.{runVerdict}
-use Rattle.demands.specs.History.{after}
+use Rattle.image.specs.Keeping.{restoredFrom}
+use Rattle.image.specs.Samples.{Sample, claim, editing, counted, loading, prefetch, value}
+use Rattle.demands.specs.History.{after, history, startOf, departures, lastWithdrew}
 use Rattle.demands.specs.Cases.{ask, plain, at, put, clean, flagIs}
 
 -- ---- a sound record for each flag and each kind of holder
@@ -189,6 +192,31 @@ breaks n (t ∷ ts) = Bool·beq t (not (eqb n 1)) && breaks (n - 1) ts
 abbrev pub breakEach : ℕ → List Page → Bool
 breakEach n [] = true
 breakEach n (p ∷ ps) = breaks n (rules (headOf p) (p .readers)) && eqb (lowestBroken p) n && breakEach (n + 1) ps
+
+-- ---- a page that was read goes on
+-- the requests are all accepted, and depart so often from each bucket; before them the page is out just if it was read so
+pub record Resumed : Type 0 where
+  pub from : Sample
+  pub requests : List Request
+  pub departs : List ℕ
+
+abbrev pub resumes : Resumed → Bool
+resumes r =
+    let p = restoredFrom (r .from .bytes) .page in
+    let told = history p (r .requests) [] in
+    allAccepted p (r .requests)
+    && Bool·beq (lastWithdrew (startOf p) []) (not (isStored (p .storage)))
+    && every (λ b. eqb (departures (startOf p) b told) (getD (r .departs) b 0)) everyBucket
+
+-- a loader that was read with a bucket leaves it; one that has none leaves none; a reader that was read leaves its own
+abbrev pub resumed : List Resumed
+resumed =
+    record { from = loading; requests = put 17 5 ∷ []; departs = 1 ∷ 0 ∷ 0 ∷ 0 ∷ [] }
+    ∷ record { from = counted; requests = plain 14 ∷ put 17 5 ∷ []; departs = 0 ∷ 0 ∷ 0 ∷ 1 ∷ [] }
+    ∷ record { from = prefetch; requests = put 17 5 ∷ []; departs = 0 ∷ 0 ∷ 0 ∷ 0 ∷ [] }
+    ∷ record { from = claim; requests = ask 22 3 0 value ∷ []; departs = 0 ∷ 0 ∷ 0 ∷ 1 ∷ [] }
+    ∷ record { from = editing; requests = at 18 1 ∷ put 10 6 ∷ []; departs = 0 ∷ 0 ∷ 0 ∷ 0 ∷ [] }
+    ∷ []
 
 -- ---- each number is given somewhere
 -- a bucket at its ceiling, and a full list with every bucket under its ceiling; both unmapped

@@ -1,8 +1,5 @@
 // Operation 6: how the page is judged, what stands in it, and its readers as an image lists them. A value stands in a record as
 // one that was withdrawn does.
-ghost use Prim.Native.Nat.{_≤_};
-ghost use lib.ListN.{length};
-ghost use Rattle.kinds.specs.Limits.{lineSize};
 use crate::fields::VALUE;
 use kinds::BUCKETS;
 use kinds::CAPACITY;
@@ -62,19 +59,15 @@ fn shown(flag: Flag, storage: Storage, len: usize, counts: [Count; BUCKETS as us
 }
 
 // One reader.
-fn put_reader(reader: Reader, out: &mut [u8])
-    requires { ⌜ lineSize ≤ length (now out) ⌝ }
-{
+fn put_reader(reader: Reader, out: &mut [u8]) {
     let phase = reader.phase;
     let bucket = reader.bucket;
-    let carried = match phase {
-        Phase::Pending => Answer::Accepted,
-        Phase::Pending2 => Answer::Accepted,
-        Phase::Obtained(value) => Answer::Withdrew(value),
+    let value = match phase {
+        Phase::Pending => 0,
+        Phase::Pending2 => 0,
+        Phase::Obtained(value) => value,
     };
-    wire::write_answer(carried, out);
-    out[0] = phase_number(phase);
-    out[1] = bucket.0;
+    wire::put(out, phase_number(phase), bucket.0, 0, value);
 }
 
 // The listed readers, no more than there is room for.

@@ -13,8 +13,10 @@ use lines::NO_MEANING;
 use lines::line;
 use look::look;
 use ops::fill;
+use ops::keep;
 use ops::lend;
 use ops::put;
+use ops::restore;
 use ops::run;
 use ops::step;
 use ops::write;
@@ -49,6 +51,8 @@ fn main() {
             5 => write(bytes, buffer),
             6 => look(page),
             7 => page = put(page, bytes),
+            8 => page = restore(bytes),
+            9 => keep(page, buffer),
             _ => line(NO_MEANING),
         }
         io::write_all(STDOUT_FILENO, buffer);

@@ -8,7 +8,6 @@ use crate::lines::NO_MEANING;
 use crate::lines::line;
 use crate::lines::say;
 use crate::raw::is_known;
-use crate::raw::page_of;
 use kinds::Bucket;
 use lock::Outcome;
 use page_record::Page;
@@ -22,6 +21,9 @@ const RUN: u64 = 4;
 // The operation whose buffer takes a request.
 const WRITE: u64 = 5;
 
+// The operation whose buffer takes an image.
+const KEEP: u64 = 9;
+
 // The number of no step.
 const NO_STEP: u8 = 0;
 
@@ -32,7 +34,7 @@ const FILLING: u8 = 170;
 pub fn fill(kind: u64, a: u64, space: &mut [u8]) -> usize
     ensures { λ r. ⌜ r ≤ length (now (space .exit)) ⌝ }
 {
-    if (kind != RUN) & (kind != WRITE) {
+    if (kind != RUN) & (kind != WRITE) & (kind != KEEP) {
         return 0;
     }
     let mut n: usize = 0;
@@ -111,8 +113,21 @@ pub fn write(payload: &[u8], buffer: &mut [u8]) {
 pub fn put(page: Page, payload: &[u8]) -> Page {
     if is_known(payload) {
         line(0);
-        return page_of(payload);
+        return image::decode(payload);
     }
     line(NO_MEANING);
     page
+}
+
+// Operation 8: the page of an image.
+pub fn restore(payload: &[u8]) -> Page {
+    let restored = image::read(payload);
+    let answer = restored.answer;
+    say(answer);
+    restored.page
+}
+
+// Operation 9: the page's image.
+pub fn keep(page: Page, buffer: &mut [u8]) {
+    say(image::write(page, buffer));
 }

@@ -1,6 +1,7 @@
 // The kinds of a page record: its flag, its holders, its readers, and the limits. No kind stands for another: a bucket, a
 // visited number and a count are three types, and a holder carries only what its own phase needs.
 mod flags;
+mod numbers;
 mod phases;
 
 pub use flags::awaited;
@@ -14,6 +15,18 @@ pub use flags::not_loading;
 pub use flags::open_to_readers;
 pub use flags::released;
 pub use flags::writeback_done;
+pub use numbers::bucket_from;
+pub use numbers::bucket_number;
+pub use numbers::exc_from;
+pub use numbers::exc_number;
+pub use numbers::flag_from;
+pub use numbers::loading_from;
+pub use numbers::loading_number;
+pub use numbers::phase_from;
+pub use numbers::storage_from;
+pub use numbers::storage_number;
+pub use numbers::writeback_from;
+pub use numbers::writeback_number;
 pub use phases::phase_number;
 
 // How many buckets there are.

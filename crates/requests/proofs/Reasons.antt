@@ -29,6 +29,8 @@ reasons =
     ∷ Refusal.NotWhole
     ∷ Refusal.TooMany
     ∷ Refusal.NoRoom
+    ∷ Refusal.WrongSize
+    ∷ Refusal.NotAnImage
     ∷ []
 
 abbrev pub reasonAt : ℕ → Refusal
@@ -49,6 +51,8 @@ reason-told Refusal.ListFull = refl
 reason-told Refusal.NotWhole = refl
 reason-told Refusal.TooMany = refl
 reason-told Refusal.NoRoom = refl
+reason-told Refusal.WrongSize = refl
+reason-told Refusal.NotAnImage = refl
 
 -- a reason with number 0 would be the first, whose number is 1
 pub refusal-positive : (why : Refusal) → eqb (refusalNumber why) 0 ≡ false

@@ -18,6 +18,8 @@ refusalNumber Refusal.ListFull = 11
 refusalNumber Refusal.NotWhole = 12
 refusalNumber Refusal.TooMany = 13
 refusalNumber Refusal.NoRoom = 14
+refusalNumber Refusal.WrongSize = 15
+refusalNumber Refusal.NotAnImage = 16
 
 -- 0 where all that is asked holds
 abbrev pub verdictNumber : Verdict → ℕ

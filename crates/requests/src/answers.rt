@@ -22,6 +22,8 @@ pub fn refusal_number(why: Refusal) -> u8
         Refusal::NotWhole => 12,
         Refusal::TooMany => 13,
         Refusal::NoRoom => 14,
+        Refusal::WrongSize => 15,
+        Refusal::NotAnImage => 16,
     }
 }
 

@@ -24,7 +24,7 @@ pub struct Request {
     pub value: u64,
 }
 
-// Why a request is refused: the numbers 1 to 14 of RULES 4.1, in their order.
+// Why something is refused: the numbers 1 to 16 of RULES 4.1, in their order. 15 and 16 are of an image.
 pub enum Refusal {
     Unsound,
     UnknownStep,
@@ -40,6 +40,8 @@ pub enum Refusal {
     NotWhole,
     TooMany,
     NoRoom,
+    WrongSize,
+    NotAnImage,
 }
 
 // What a request is answered: that it is accepted, and which value is handed out for it if one is, or why it is refused.

@@ -12,7 +12,7 @@ use kinds::Bucket;
 use kinds::LINE;
 use numbers::is_blank;
 pub use numbers::read_u64;
-use numbers::write_u64;
+pub use numbers::write_u64;
 use requests::Answer;
 use requests::Refusal;
 use requests::Request;
@@ -72,7 +72,7 @@ pub fn read(bytes: &[u8]) -> Reading
 }
 
 // A line over the first sixteen bytes of the buffer, which stays as it is where it has fewer.
-fn put(buffer: &mut [u8], first: u8, second: u8, third: u8, value: u64) -> Answer
+pub fn put(buffer: &mut [u8], first: u8, second: u8, third: u8, value: u64) -> Answer
     ensures answer { λ r. ⌜ r ≡ putAnswer (now (buffer .entry)) ⌝ }
     ensures bytes { λ _. ⌜ now (buffer .exit) ≡ putTo (lineWith first second third value) (now (buffer .entry)) ⌝ }
 {

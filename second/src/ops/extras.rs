@@ -23,10 +23,11 @@ fn unneeded(stream: &mut Stream, random: &mut Random, plan: &Plan) {
     }
     let request = step(19).at(2).bytes();
     let a = random.number();
-    for number in [1, 6, 2, 3, 6] {
+    for number in [1, 6, 2, 3, 6, 8, 6] {
         stream.push(number, a, &request);
     }
     stream.push(6, 16, &[1]);
+    stream.push(9, 16, &request);
     if plan.long() {
         stream.push(1, a, &[19; 65_536]);
         stream.look();
@@ -37,13 +38,10 @@ fn unneeded(stream: &mut Stream, random: &mut Random, plan: &Plan) {
 /// that has a buffer in a long one. The seed decides which.
 fn large(stream: &mut Stream, plan: &Plan) {
     let request = step(19).at(1).bytes();
-    let turn = (plan.seed % 10) as usize;
     stream.fresh(plan.seed);
-    if plan.long() || turn < 5 {
-        stream.push(4, LARGE[turn % 5], &request);
-    }
-    if plan.long() || turn >= 5 {
-        stream.push(5, LARGE[(turn + 3) % 5], &request);
+    let length = LARGE[(plan.seed % 5) as usize];
+    for number in plan.share(vec![9, 5, 4], 3) {
+        stream.push(number, length, &request);
     }
     stream.look();
 }

@@ -1,14 +1,18 @@
-//! Raw pages in the making: `after(&claimed()).set(place::FLAG, 3)`.
+//! Images in the making, and raw pages, which have the same layout:
+//! `after(&claimed()).set(place::FLAG, 3)`.
 
 use super::random::Random;
 use super::request::Draft;
 use super::situations::page_after;
 use crate::kinds::Flag;
-use crate::raw::{place, write_raw, IMAGE};
+use crate::raw::{place, unlooked, write_raw, IMAGE};
 use crate::record::Page;
 use crate::wire::RECORD;
 
-/// The bytes of a raw page.
+/// Rooms around that of an image.
+pub const ROOMS: [usize; 6] = [0, 1, IMAGE - 1, IMAGE, IMAGE + 1, IMAGE + 100];
+
+/// The bytes of an image or of a raw page.
 #[derive(Clone)]
 pub struct Image(pub [u8; IMAGE]);
 
@@ -27,6 +31,12 @@ impl Image {
     pub fn set(mut self, place: usize, byte: u8) -> Image {
         self.0[place] = byte;
         self
+    }
+
+    /// With a byte at this place that is one more.
+    pub fn bump(self, place: usize) -> Image {
+        let byte = self.0[place].wrapping_add(1);
+        self.set(place, byte)
     }
 
     /// With this flag.
@@ -61,7 +71,7 @@ impl Image {
 
     /// With any bytes wherever nothing is looked at; it says the same page.
     pub fn noise(mut self, random: &mut Random) -> Image {
-        for place in self.unlooked() {
+        for place in unlooked(&self.0) {
             self.0[place] = random.byte();
         }
         if self.0[place::EXC_KIND] < 3 {
@@ -74,26 +84,6 @@ impl Image {
             }
         }
         self
-    }
-
-    /// Every place whose byte may be anything and says nothing.
-    fn unlooked(&self) -> Vec<usize> {
-        let exc_kind = self.0[place::EXC_KIND];
-        let mut places: Vec<usize> = (11..16).chain(20..32).chain(56..64).collect();
-        let mut add = |unlooked: bool, from: usize, length: usize| {
-            places.extend((from..from + length).filter(|_| unlooked));
-        };
-        add(self.0[place::STORAGE_IN] == 0, place::STORAGE, 8);
-        add(self.0[place::WRITEBACK_IN] == 0, place::WRITEBACK, 8);
-        add(exc_kind == 0, place::EXC_BUCKET, 1);
-        add(exc_kind != 3, place::VISITED, 1);
-        add(matches!(exc_kind, 0 | 4), place::EXC_VALUE, 8);
-        add(self.0[place::LOADER_KIND] < 2, place::LOADER_BUCKET, 1);
-        for entry in (place::READERS..IMAGE).step_by(RECORD) {
-            add(true, entry + 2, 6);
-            add(self.0[entry] < 3, entry + 8, 8);
-        }
-        places
     }
 }
 

@@ -1,8 +1,8 @@
 //! The generator of operations for the drill.
 //!
 //! What is drawn, scripted or damaged is decided here, once: a stream goes
-//! through scripts, wrong requests, runs, walks and raw pages, and ends by its
-//! seed. The same seed and size always give the same bytes.
+//! through scripts, wrong requests, runs, walks, raw pages and images, and ends
+//! by its seed. The same seed and size always give the same bytes.
 
 pub mod back;
 pub mod damage;
@@ -13,11 +13,14 @@ pub mod image;
 pub mod pages;
 pub mod random;
 pub mod request;
+pub mod restarts;
 pub mod runs;
 pub mod scripts;
 pub mod situations;
 pub mod stream;
 pub mod walks;
+
+use std::ops::Range;
 
 use random::Random;
 use stream::Stream;
@@ -42,6 +45,22 @@ impl Plan {
     pub fn long(&self) -> bool {
         self.requests >= LONG
     }
+
+    /// One of these numbers, another one for the next seed.
+    pub fn one_of(&self, numbers: Range<usize>) -> usize {
+        let turn = self.seed % numbers.len() as u64;
+        numbers.start + turn as usize
+    }
+
+    /// All of a table in a long stream, and every `n`th of it in a short one, so
+    /// that `n` seeds in a row have all of it.
+    pub fn share<T>(&self, table: Vec<T>, n: u64) -> impl Iterator<Item = T> {
+        let (long, first) = (self.long(), self.seed % n);
+        let turns = (first..).zip(table);
+        turns
+            .filter(move |(turn, _)| long || turn % n == 0)
+            .map(|(_, entry)| entry)
+    }
 }
 
 /// The stream of this plan.
@@ -57,6 +76,7 @@ pub fn stream(plan: &Plan) -> Vec<u8> {
     extras::play(&mut stream, &mut random, plan);
     let walked = walks::play(&mut stream, &mut random, plan);
     pages::play(&mut stream, &mut random, plan, &walked);
+    restarts::play(&mut stream, &mut random, plan, &walked);
     ends::play(&mut stream, &mut random, plan);
     stream.bytes()
 }

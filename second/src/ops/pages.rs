@@ -1,9 +1,9 @@
 //! Raw pages: sound ones, ones that break each rule, and payloads without
-//! meaning. After each page comes a look, a step by value, a step with the page
-//! lent, and a run, so that every function meets every page.
+//! meaning. After each page comes a look, its image, a step by value, a step with
+//! the page lent, and a run, so that every function meets every page.
 
 use super::drawn::{any_page, change, walked_page};
-use super::image::{after, entry_place, Image};
+use super::image::{after, entry_place, Image, ROOMS};
 use super::random::Random;
 use super::request::{step, Draft};
 use super::situations::{
@@ -202,13 +202,9 @@ pub fn without_meaning() -> Vec<Vec<u8>> {
 /// The pages of the tables, payloads without meaning, a loader that leaves, and
 /// drawn pages.
 pub fn play(stream: &mut Stream, random: &mut Random, plan: &Plan, walked: &[Page]) {
-    for (_, image) in main_pages() {
-        meet(stream, random, &image);
-    }
-    for (place, (_, image)) in (plan.seed % 7..).zip(more_pages()) {
-        if plan.long() || place % 7 == 0 {
-            meet(stream, random, &image);
-        }
+    let pages = main_pages().into_iter().chain(plan.share(more_pages(), 7));
+    for ((_, image), room) in pages.zip(ROOMS.into_iter().cycle()) {
+        meet(stream, random, &image, room);
     }
     for payload in without_meaning() {
         stream.push(7, 0, &payload);
@@ -226,9 +222,9 @@ fn play_situations(stream: &mut Stream, random: &mut Random) {
     for situation in situations::all() {
         for _ in 0..3 {
             let flag = random.pick(&Flag::ALL);
-            meet(stream, random, &after(&situation).flag(flag));
+            meet(stream, random, &after(&situation).flag(flag), IMAGE);
             let changed = change(random, after(&situation));
-            meet(stream, random, &changed);
+            meet(stream, random, &changed, IMAGE);
         }
     }
 }
@@ -242,7 +238,8 @@ fn play_drawn(stream: &mut Stream, random: &mut Random, plan: &Plan, walked: &[P
         } else {
             any_page(random, walked)
         };
-        meet(stream, random, &image);
+        let room = random.pick(&ROOMS);
+        meet(stream, random, &image, room);
     }
 }
 
@@ -254,23 +251,24 @@ fn finish_load(stream: &mut Stream, random: &mut Random) {
         stream.ask(&step(number).of(random.value()).bytes());
         stream.look();
     }
-    ask_on(stream, random);
+    ask_on(stream, random, 9);
 }
 
-/// A page, and every function on it.
-fn meet(stream: &mut Stream, random: &mut Random, image: &Image) {
+/// A page, and every function on it; so much room is for its image. Where it is
+/// sound, more is asked, so that its holders show.
+fn meet(stream: &mut Stream, random: &mut Random, image: &Image, room: usize) {
     stream.raw(&image.0);
     stream.look();
-    ask_on(stream, random);
+    stream.write_image(room);
+    let length = if sound(stream.page()) { 9 } else { 2 };
+    ask_on(stream, random, length);
 }
 
-/// Steps and a run on the page as it is. Where it is sound, more is asked, so
-/// that its holders show.
-fn ask_on(stream: &mut Stream, random: &mut Random) {
+/// Steps, and a run of so many more, on the page as it is.
+pub fn ask_on(stream: &mut Stream, random: &mut Random, length: usize) {
     let hand = Hand::for_page(stream.page());
     stream.ask(&hand.draw(random, stream.page()));
     stream.ask(&hand.draw(random, stream.page()));
-    let length = if sound(stream.page()) { 9 } else { 2 };
     let requests = hand.draw_run(random, stream.page(), length);
     let bytes = requests.as_flattened();
     stream.run(bytes, bytes.len() + random.below(3));

@@ -1,5 +1,6 @@
 //! Requests in the making, good ones and bad ones: `step(22).at(1).of(5)`.
 
+use crate::steps::takes_value;
 use crate::wire::RECORD;
 
 /// The values at the edges of 64 bits.
@@ -48,6 +49,15 @@ impl Draft {
     /// With this value.
     pub const fn of(self, value: u64) -> Draft {
         Draft { value, ..self }
+    }
+
+    /// With this value, if its step takes one.
+    pub fn revalued(self, value: u64) -> Draft {
+        if takes_value(self.step) {
+            self.of(value)
+        } else {
+            self
+        }
     }
 
     /// With this byte at place 3, 4, 5, 6 or 7.

@@ -7,6 +7,7 @@ use super::request::{records, step, Draft, EDGES};
 use super::situations::{self, LOADED, PREFETCHES};
 use super::stream::Stream;
 use super::Plan;
+use crate::raw::IMAGE;
 use crate::run::answer_line;
 use crate::steps::{takes_bucket, takes_value};
 use crate::wire::RECORD;
@@ -374,8 +375,8 @@ fn ask_twice(stream: &mut Stream, request: &[u8; RECORD]) {
     }
 }
 
-/// Every step in every situation: first all that are refused there, and then
-/// one that is accepted, or in a long stream each of them.
+/// The image of every situation, and every step in it: first all that are refused
+/// there, and then one that is accepted, or in a long stream each of them.
 pub fn play_situations(stream: &mut Stream, random: &mut Random, plan: &Plan) {
     for situation in situations::all() {
         let page = situations::page_after(&situation);
@@ -383,6 +384,7 @@ pub fn play_situations(stream: &mut Stream, random: &mut Random, plan: &Plan) {
         let (accepted, refused): (Vec<_>, Vec<_>) = every_step().into_iter().partition(accepts);
         stream.play(&situation);
         stream.look();
+        stream.write_image(IMAGE);
         stream.run_all(&refused);
         stream.look();
         let chosen = random.pick(&accepted);

@@ -35,7 +35,17 @@ pub fn all() -> Vec<Vec<Draft>> {
 
 /// The page that a script leaves.
 pub fn page_after(script: &[Draft]) -> Page {
-    let mut page = fresh(0);
+    go_through(fresh(0), script)
+}
+
+/// The page that a script leaves where every value in it is this one, and the
+/// fresh page's too.
+pub fn page_of(script: &[Draft], value: u64) -> Page {
+    let script: Vec<Draft> = script.iter().map(|draft| draft.revalued(value)).collect();
+    go_through(fresh(value), &script)
+}
+
+fn go_through(mut page: Page, script: &[Draft]) -> Page {
     for request in records(script) {
         let _ = answer_line(&mut page, &request);
     }
@@ -160,7 +170,8 @@ pub fn editing_uncounted() -> Vec<Draft> {
     script.to_vec()
 }
 
-fn then(mut script: Vec<Draft>, more: &[Draft]) -> Vec<Draft> {
+/// A script, and more after it.
+pub fn then(mut script: Vec<Draft>, more: &[Draft]) -> Vec<Draft> {
     script.extend(more);
     script
 }

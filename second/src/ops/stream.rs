@@ -3,7 +3,7 @@
 
 use super::request::{records, Draft};
 use crate::drill::{Drill, Operation};
-use crate::raw::IMAGE;
+use crate::raw::{write_raw, IMAGE};
 use crate::record::Page;
 use crate::wire::RECORD;
 
@@ -94,6 +94,23 @@ impl Stream {
     /// A raw page.
     pub fn raw(&mut self, image: &[u8; IMAGE]) {
         self.push(7, 0, image);
+    }
+
+    /// An image that is read, or something else in its place.
+    pub fn read_image(&mut self, bytes: &[u8]) {
+        self.push(8, 0, bytes);
+    }
+
+    /// The page's image written, with so much room.
+    pub fn write_image(&mut self, room: usize) {
+        self.push(9, room as u64, &[]);
+    }
+
+    /// The page's image written, and read back: the same page goes on.
+    pub fn restart(&mut self) {
+        self.write_image(IMAGE);
+        let image = write_raw(self.page());
+        self.read_image(&image);
     }
 }
 

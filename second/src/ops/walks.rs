@@ -84,15 +84,23 @@ pub fn play(stream: &mut Stream, random: &mut Random, plan: &Plan) -> Vec<Page> 
         let mut left = plan.requests / MIXES.len();
         while left > 0 {
             let length = left.min(mix.length);
-            walk(stream, random, mix, length, &mut pages);
+            walk(stream, random, plan, mix, length, &mut pages);
             left -= length;
         }
     }
     pages
 }
 
-/// One walk from a fresh page, with looks strewn in.
-fn walk(stream: &mut Stream, random: &mut Random, mix: &Mix, length: usize, pages: &mut Vec<Page>) {
+/// One walk from a fresh page, with looks strewn in, and in a long stream with
+/// restarts.
+fn walk(
+    stream: &mut Stream,
+    random: &mut Random,
+    plan: &Plan,
+    mix: &Mix,
+    length: usize,
+    pages: &mut Vec<Page>,
+) {
     let hand = Hand {
         steps: mix.steps,
         bucket: random.byte_below(4),
@@ -106,6 +114,9 @@ fn walk(stream: &mut Stream, random: &mut Random, mix: &Mix, length: usize, page
         left -= go_on(stream, random, &hand, left);
         if random.one_in(3) {
             stream.look();
+        }
+        if plan.long() && random.one_in(50) {
+            stream.restart();
         }
         if random.one_in(6) {
             pages.push(stream.page().clone());

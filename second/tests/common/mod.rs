@@ -20,7 +20,7 @@ pub fn operations(mut stream: &[u8]) -> (Vec<Operation>, &[u8]) {
 fn first_operation(stream: &[u8]) -> Option<(Operation, &[u8])> {
     let (head, rest) = stream.split_at_checked(16)?;
     let length = (value_at(head, 0) >> 32) as usize;
-    if !(1..=7).contains(&head[0]) || head[1..4] != [0; 3] || length > 65_536 {
+    if !(1..=9).contains(&head[0]) || head[1..4] != [0; 3] || length > 65_536 {
         return None;
     }
     let (payload, rest) = rest.split_at_checked(length)?;
@@ -32,7 +32,7 @@ fn first_operation(stream: &[u8]) -> Option<(Operation, &[u8])> {
     Some((operation, rest))
 }
 
-/// The requests from one fresh or raw page to the next.
+/// The requests from one page that is fresh, raw or read to the next.
 #[allow(dead_code)]
 pub struct Walk {
     pub start: Page,
@@ -58,7 +58,7 @@ pub fn walks(stream: &[u8]) -> Vec<Walk> {
         let mut page = drill.page().clone();
         let written = drill.perform(&operation).unwrap();
         let lines = match operation.number {
-            1 | 7 => {
+            1 | 7 | 8 => {
                 walks.push(start(drill.page()));
                 continue;
             }

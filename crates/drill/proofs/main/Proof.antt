@@ -39,11 +39,13 @@ main-spec =
     (λ c κs. tt)
     (λ c κs. tt)
     (λ c κs. tt)
+    (λ c κs. tt)
+    (λ c κs. tt)
     (λ c. search needs)
     (λ c.
     let joined = c .before .before .before in
     let f = joined .before .before .before .before .fill in
     let space = f .last .1 .1 .0 in
     let long : length space ≡ 65536 = search needs in
-    (search needs, length-front space (joined .match .buffer) (f .result) (c .buffer4 .given) ∙ long))
+    (search needs, length-front space (joined .match .buffer) (f .result) (c .buffer5 .given) ∙ long))
     (λ c. search needs))

@@ -1,0 +1,55 @@
+-- What is taken to have happened just before a history starts at a page, written out as requests that were accepted (RULES 9): a loader
+-- came, and a 13 named its bucket, if it has one; a 4 named the exclusive holder's, if it has one, and an 8 withdrew the page for one that
+-- is Obtained. `startOf` says the same in fields: every word of a history is as if these stood at its end (`as-if-before`), but that they
+-- are no arrivals. Whether each was really asked nobody knows; they are what the words look at.
+use Prim.Native.Nat.{ℕ}
+use mathlib.Core.Path.{_≡_}
+use mathlib.Core.Bool.{false}
+use mathlib.Core.List.{List, [], _∷_, _++_}
+use Rattle.kinds.specs.declared.{Bucket.Bucket, MaybeBucket.MaybeBucket, ExcState.ExcState, LoadingState.LoadingState}
+use Rattle.page_record.specs.declared.Page.{Page}
+use Rattle.page_record.specs.Holders.{valueOf}
+use Rattle.page_record.specs.Pages.{numberAt}
+use Rattle.requests.specs.declared.Answer.{Answer}
+use Rattle.demands.specs.History.{Event, Start, startOf, lastCounted, countedSince, departures, lastPut, lastWithdrew}
+
+-- an accepted request
+abbrev pub granted : ℕ → Bucket → Event
+granted step bucket = record { request = record { step = step; bucket = bucket; clean = 0; value = 0 }; answer = Answer.Accepted }
+
+abbrev pub plainly : ℕ → Event
+plainly step = granted step (record { 0 = 0 })
+
+-- it named the bucket, if there is one
+abbrev pub named : ℕ → MaybeBucket → List Event
+named step MaybeBucket.None = []
+named step (MaybeBucket.At bucket) = granted step bucket ∷ []
+
+abbrev pub loaderCame : LoadingState → List Event
+loaderCame LoadingState.None = []
+loaderCame LoadingState.Pending = plainly 11 ∷ []
+loaderCame (LoadingState.PendingCounted bucket) = named 13 bucket ++ plainly 11 ∷ []
+loaderCame (LoadingState.Obtained bucket) = named 13 bucket ++ plainly 11 ∷ []
+
+abbrev pub editorCame : ExcState → List Event
+editorCame ExcState.None = []
+editorCame (ExcState.Claim bucket value) = named 4 bucket
+editorCame (ExcState.PendingAwaitWriteback bucket value) = named 4 bucket
+editorCame (ExcState.Pending bucket visited clean value) = named 4 bucket
+editorCame (ExcState.Obtained bucket clean) = plainly 8 ∷ named 4 bucket
+
+-- the newest first
+abbrev pub before : Page → List Event
+before p = loaderCame (p .«loading_state») ++ editorCame (p .«exc_state»)
+
+-- a start before all this: the page's counts and its value, nobody loads, and the page is in
+abbrev pub bareStart : Page → Start
+bareStart p = record { counts = numberAt (p .«ref_counts»); value = valueOf (p .storage); out = false; loader = MaybeBucket.None }
+
+-- each word of a history from this page is as if what came before stood at its end
+pub record AsIf (p : Page) (past : List Event) : Type 0 where
+  pub named-last : lastCounted (startOf p) past ≡ lastCounted (bareStart p) (past ++ before p)
+  pub named-since : countedSince (startOf p) past ≡ countedSince (bareStart p) (past ++ before p)
+  pub departed : (b : ℕ) → departures (startOf p) b past ≡ departures (bareStart p) b (past ++ before p)
+  pub put : lastPut (startOf p) past ≡ lastPut (bareStart p) (past ++ before p)
+  pub withdrew : lastWithdrew (startOf p) past ≡ lastWithdrew (bareStart p) (past ++ before p)

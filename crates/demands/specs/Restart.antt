@@ -1,0 +1,80 @@
+-- A record across a restart: demands 1 to 3 for images (RULES 5.5 to 5.7, and 9). What is read and written are `restoredFrom`,
+-- `keptAnswer` and `keptIn`; the tables of numbers are `applyingRead` and `applyingWrite` (image). Values in the logic are any numbers:
+-- `InRange` says that a page's are as wide as the code holds them.
+use Prim.Native.Nat.{ℕ, _≤_}
+use mathlib.Core.Path.{_≡_}
+use mathlib.Core.Logic.{_↔_}
+use mathlib.Core.Bool.{false}
+use mathlib.Core.List.{List, [], _++_}
+use lib.Dec.{T}
+use lib.ListN.{length, drop}
+use Rattle.laws.specs.Tables.{appliesIn, Lowest}
+use Rattle.kinds.specs.Limits.{capacity}
+use Rattle.page_record.specs.declared.Page.{Page}
+use Rattle.page_record.specs.Pages.{freshPage}
+use Rattle.soundness.specs.Soundness.{soundOf}
+use Rattle.requests.specs.declared.{Refusal.Refusal, Answer.Answer, Request.Request}
+use Rattle.requests.specs.Answers.{answerNumber}
+use Rattle.wire.specs.Bytes.{Bytes}
+use Rattle.image.specs.declared.Restored.{Restored}
+use Rattle.image.specs.Images.{wholeSize, imageOf, InRange}
+use Rattle.image.specs.Keeping.{restoredFrom, keptAnswer, keptIn}
+use Rattle.image.specs.Applies.{applyingRead, applyingWrite}
+use Rattle.demands.specs.History.{Event, Given, startOf, after, history, afterRuns, runsHistory}
+use Rattle.demands.specs.Before.{AsIf}
+use Rattle.demands.specs.Demand3.{Demand3}
+
+-- bytes are the image of some sound page
+abbrev pub ImageOfSound : List ℕ → Type 0
+ImageOfSound l = (p : Page) × T (soundOf p) × InRange p × (imageOf capacity p ≡ l)
+
+-- a page is read
+abbrev pub restored : Page → Restored
+restored p = record { answer = Answer.Accepted; page = p }
+
+-- ---- any bytes that are read as an image
+pub record Demand1Image (l : List ℕ) : Type 0 where
+  -- n is given just if it is the lowest of 15 and 16 that applies, and they are accepted just if none applies;
+  pub given : (n : ℕ) → 1 ≤ n → (answerNumber (restoredFrom l .answer) ≡ n) ↔ Lowest (applyingRead l) n
+  pub accepted : (restoredFrom l .answer ≡ Answer.Accepted) ↔ ((n : ℕ) → appliesIn (applyingRead l) n ≡ false)
+  -- 16 does not apply just if they are the image of some sound page
+  pub sixteen : Bytes l → (appliesIn (applyingRead l) 16 ≡ false) ↔ ImageOfSound l
+  -- a refusal gives a fresh page of 0, and whatever the bytes are the page that is given is sound
+  pub fresh : (why : Refusal) → restoredFrom l .answer ≡ Answer.Refused why → restoredFrom l .page ≡ freshPage 0
+  pub sound : T (soundOf (restoredFrom l .page))
+
+-- ---- any page that is written into any buffer as an image
+pub record Demand1Keep (p : Page) (buffer : List ℕ) : Type 0 where
+  -- n is given just if it is the lowest of 1 and 15 that applies, and it is accepted just if none applies
+  pub given : (n : ℕ) → 1 ≤ n → (answerNumber (keptAnswer p buffer) ≡ n) ↔ Lowest (applyingWrite p buffer) n
+  pub accepted : (keptAnswer p buffer ≡ Answer.Accepted) ↔ ((n : ℕ) → appliesIn (applyingWrite p buffer) n ≡ false)
+  -- a refusal touches no byte; what is accepted is the image over the first bytes, and no byte past it is touched
+  pub untouched : (why : Refusal) → keptAnswer p buffer ≡ Answer.Refused why → keptIn p buffer ≡ buffer
+  pub first : keptAnswer p buffer ≡ Answer.Accepted → keptIn p buffer ≡ imageOf capacity p ++ drop wholeSize buffer
+  pub past : drop wholeSize (keptIn p buffer) ≡ drop wholeSize buffer
+  pub long : length (imageOf capacity p) ≡ wholeSize
+
+-- ---- reading and writing undo each other
+pub record Demand2Image : Type 0 where
+  -- written and read again
+  pub write-read : (p : Page) → T (soundOf p) → InRange p → restoredFrom (imageOf capacity p) ≡ restored p
+  -- read and written again
+  pub read-write : (l : List ℕ) (p : Page) → restoredFrom l ≡ restored p → imageOf capacity p ≡ l
+  -- what reading accepts is exactly what writing produces
+  pub accepts-images : (l : List ℕ) → Bytes l → ((p : Page) × (restoredFrom l ≡ restored p)) ↔ ImageOfSound l
+  -- no two sound pages share an image
+  pub apart : (p q : Page) → T (soundOf p) → InRange p → T (soundOf q) → InRange q → imageOf capacity p ≡ imageOf capacity q → p ≡ q
+  -- both at once, for the functions themselves: bytes are read as a page just if writing that page, whose values the code can hold,
+  -- into any buffer of an image's length is accepted and leaves those bytes
+  pub agree : (l buffer : List ℕ) (p : Page) → Bytes l → length buffer ≡ wholeSize
+      → (restoredFrom l ≡ restored p) ↔ (InRange p × (keptAnswer p buffer ≡ Answer.Accepted) × (keptIn p buffer ≡ l))
+
+-- ---- demand 3 from the page that was read, whatever the bytes were, after any requests and after any runs
+pub record Demand3Image (l : List ℕ) : Type 0 where
+  pub requests : (qs : List Request)
+      → Demand3 (startOf (restoredFrom l .page)) (after (restoredFrom l .page) qs) (history (restoredFrom l .page) qs [])
+  pub runs : (gs : List Given)
+      → Demand3 (startOf (restoredFrom l .page)) (afterRuns (restoredFrom l .page) gs) (runsHistory (restoredFrom l .page) gs [])
+  -- where its words are as if a 13 had named the loader's bucket just before and a 4 the exclusive holder's, each no arrival, and a page
+  -- that was read as out had been withdrawn
+  pub as-if : (past : List Event) → AsIf (restoredFrom l .page) past

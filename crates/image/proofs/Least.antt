@@ -1,0 +1,49 @@
+-- Reading an image and writing one give the first number that applies: of 15 and 16 to the bytes (`read-number`), of 1 and 15 to the page
+-- and the buffer (`write-number`). Neither carries a value. Assumes nothing.
+use Prim.Native.Nat.{ℕ}
+use mathlib.Core.Bool.{false, Bool·not-not}
+use mathlib.Core.List.{List}
+use mathlib.Core.Path.{_≡_, refl, ap, _∙_}
+use lib.ListN.{length}
+use Rattle.laws.specs.Tables.{firstApplying}
+use Rattle.laws.proofs.Orders.{leb-ltb}
+use Rattle.page_record.specs.declared.Page.{Page}
+use Rattle.requests.specs.declared.Verdict.{Verdict}
+use Rattle.requests.specs.Answers.{answerNumber, withdraws}
+use Rattle.requests.specs.Premises.{verdict}
+use Rattle.requests.proofs.Verdicts.{verdict-number}
+use Rattle.wire.specs.Buffers.{answerFor}
+use Rattle.wire.proofs.Least.{answer-number, answer-plain}
+use Rattle.image.specs.Images.{wholeSize}
+use Rattle.image.specs.Decoding.{pageFrom}
+use Rattle.image.specs.Keeping.{readable, readVerdict, restoredAs, restoredFrom, keepable, keptAnswer}
+use Rattle.image.specs.Applies.{applyingRead, applyingWrite}
+
+-- ---- reading
+restored-answer : (p : Page) (v : Verdict) → restoredAs p v .answer ≡ answerFor v
+restored-answer p Verdict.Passed = refl
+restored-answer p (Verdict.Failed why) = refl
+
+module _ (l : List ℕ) where
+  pub read-number : answerNumber (restoredFrom l .answer) ≡ firstApplying (applyingRead l)
+  unfolding restoredFrom readVerdict
+  read-number =
+      ap answerNumber (restored-answer (pageFrom l) (readVerdict (pageFrom l) l))
+      ∙ answer-number (readVerdict (pageFrom l) l)
+      ∙ verdict-number (readable (pageFrom l) l)
+
+  pub read-plain : withdraws (restoredFrom l .answer) ≡ false
+  unfolding restoredFrom
+  read-plain =
+      ap withdraws (restored-answer (pageFrom l) (readVerdict (pageFrom l) l)) ∙ answer-plain (readVerdict (pageFrom l) l)
+
+-- ---- writing
+module _ (p : Page) (l : List ℕ) where
+  pub write-number : answerNumber (keptAnswer p l) ≡ firstApplying (applyingWrite p l)
+  unfolding keptAnswer
+  write-number =
+      answer-number (verdict (keepable p l)) ∙ verdict-number (keepable p l) ∙ rw (leb-ltb wholeSize (length l)) (simp Bool·not-not)
+
+  pub write-plain : withdraws (keptAnswer p l) ≡ false
+  unfolding keptAnswer
+  write-plain = answer-plain (verdict (keepable p l))

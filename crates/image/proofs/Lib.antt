@@ -1,0 +1,10 @@
+pub mod Slices
+pub mod Decoded
+pub mod Compared
+pub mod Listing
+pub mod Heading
+pub mod Back
+pub mod Trips
+pub mod Written
+pub mod Least
+pub mod Samples

@@ -1,0 +1,17 @@
+-- `image::heads::count_bytes` meets its contract: each return, by what its tests, its matches and its calls showed. Assumes nothing.
+use mathlib.Core.Path.{refl}
+use borrow.Author.Needs.{needs}
+use Rattle.image.specs.Images.{countBytes}
+use Rattle.image.proofs.heads.count_bytes.Statement.{statement}
+use Rattle.image.proofs.heads.count_bytes.Tie as tie
+
+pub count-bytes-spec : {M : Type 1} → statement M
+unfolding countBytes
+count-bytes-spec =
+    tie.close
+    (tie.spec
+    (λ c. search needs)
+    (λ c. search needs)
+    (λ c. search needs)
+    (λ c. search needs)
+    (λ c. refl))

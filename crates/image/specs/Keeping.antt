@@ -1,0 +1,59 @@
+-- Reading an image and writing one: what is asked, what is answered, and what comes of it (RULES 5.6 and 5.7).
+use Prim.Native.Nat.{ℕ}
+use mathlib.Core.Bool.{Bool, true, false, _&&_}
+use mathlib.Core.List.{List, [], _∷_, _++_}
+use lib.Dec.{eqb, leb}
+use lib.ListN.{length, drop}
+use Rattle.kinds.specs.Limits.{capacity}
+use Rattle.page_record.specs.declared.Page.{Page}
+use Rattle.page_record.specs.Pages.{freshPage}
+use Rattle.soundness.specs.Soundness.{soundOf}
+use Rattle.requests.specs.declared.{Refusal.Refusal, Answer.Answer, Verdict.Verdict}
+use Rattle.requests.specs.Premises.{verdict}
+use Rattle.wire.specs.Buffers.{answerFor}
+use Rattle.image.specs.declared.Restored.{Restored}
+use Rattle.image.specs.Images.{wholeSize, imageOf}
+use Rattle.image.specs.Decoding.{pageFrom}
+
+-- ---- bytes that are the same
+abbrev pub sameBytes : List ℕ → List ℕ → Bool
+sameBytes [] [] = true
+sameBytes [] (y ∷ ys) = false
+sameBytes (x ∷ xs) [] = false
+sameBytes (x ∷ xs) (y ∷ ys) = eqb x y && sameBytes xs ys
+
+-- the bytes are the image of this page
+unfoldable pub isImage : Page → List ℕ → Bool
+isImage p l = sameBytes l (imageOf capacity p)
+
+-- ---- reading
+-- 15, then 16: the page that the bytes say is sound, and they are its image
+abbrev pub readable : Page → List ℕ → List (Refusal × Bool)
+readable p l = (Refusal.WrongSize, eqb (length l) wholeSize) ∷ (Refusal.NotAnImage, soundOf p && isImage p l) ∷ []
+
+unfoldable pub readVerdict : Page → List ℕ → Verdict
+readVerdict p l = verdict (readable p l)
+
+-- a refusal gives a fresh page of 0
+abbrev pub restoredAs : Page → Verdict → Restored
+restoredAs p Verdict.Passed = record { answer = Answer.Accepted; page = p }
+restoredAs p (Verdict.Failed why) = record { answer = Answer.Refused why; page = freshPage 0 }
+
+unfoldable pub restoredFrom : List ℕ → Restored
+restoredFrom l = restoredAs (pageFrom l) (readVerdict (pageFrom l) l)
+
+-- ---- writing
+-- 1, then 15
+abbrev pub keepable : Page → List ℕ → List (Refusal × Bool)
+keepable p l = (Refusal.Unsound, soundOf p) ∷ (Refusal.WrongSize, leb wholeSize (length l)) ∷ []
+
+unfoldable pub keptAnswer : Page → List ℕ → Answer
+keptAnswer p l = answerFor (verdict (keepable p l))
+
+-- the image over the first bytes of the buffer; a refusal leaves it untouched
+abbrev pub filledAs : Page → List ℕ → Verdict → List ℕ
+filledAs p l Verdict.Passed = imageOf capacity p ++ drop wholeSize l
+filledAs p l (Verdict.Failed why) = l
+
+unfoldable pub keptIn : Page → List ℕ → List ℕ
+keptIn p l = filledAs p l (verdict (keepable p l))
