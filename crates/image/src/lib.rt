@@ -1,25 +1,32 @@
-// The image of a record: the bytes in which it is kept across a restart (RULES 5.5). Writing one is `heads` and `lists`, what the
-// bytes say is `decoding`, for any bytes at all. Reading asks no more of a byte than that it is the one which writing gives: what the
-// bytes say is judged, written again, and compared.
+// The image of a record: the bytes in which it is kept across a restart (RULES 5.5). What any bytes say is `decoding`. Reading asks
+// no more of a byte than that it is the one which writing gives: what the bytes say is judged, written again, and compared.
+ghost use Prim.Native.Nat.{_*_, _<_};
 ghost use mathlib.Core.Path.{_≡_};
-ghost use lib.ListN.{length};
-ghost use Rattle.kinds.specs.Limits.{capacity};
-ghost use Rattle.image.specs.Images.{imageOf, imageSize};
+ghost use lib.ListN.{length, drop};
+ghost use Rattle.kinds.specs.Limits.{lineSize, capacity};
+ghost use Rattle.readers.specs.Listed.{live};
+ghost use Rattle.wire.specs.Buffers.{putTo};
+ghost use Rattle.image.specs.Images.{valueBytes, firstEntry, entries, imageOf, imageSize};
 ghost use Rattle.image.specs.Decoding.{pageFrom};
 ghost use Rattle.image.specs.Keeping.{isImage, readVerdict, restoredFrom, keptAnswer, keptIn};
 
 mod carried;
 mod decoding;
 mod heads;
-mod lists;
 mod places;
 mod same;
 
+use carried::exc_value;
+use carried::phase_value;
+use carried::stored_value;
+use carried::writeback_value;
 pub use decoding::decode;
 use heads::count_bytes;
 use heads::kind_bytes;
-use heads::put_values;
-use lists::put_list;
+use kinds::CAPACITY;
+use kinds::LINE;
+use kinds::phase_number;
+use page_record::Head;
 use page_record::Page;
 use page_record::fresh;
 use page_record::head_of;
@@ -33,16 +40,70 @@ pub use places::READERS;
 use places::STORAGE_VALUE;
 pub use places::STORED;
 pub use places::WRITEBACK;
+use readers::Readers;
 use requests::Answer;
 use requests::Refusal;
 use requests::Verdict;
 use same::same;
 use soundness::is_sound;
 
+// Where the second and the third of the values begin, the zeros after them, and where these end.
+const SECOND: usize = 8;
+
+const THIRD: usize = 16;
+
+const ZEROS: usize = 24;
+
+const VALUES: usize = 32;
+
 // A record that was read; a refusal gives a fresh one of 0. An enum may not hold an array, so this is a struct.
 pub struct Restored {
     pub answer: Answer,
     pub page: Page,
+}
+
+// The values of storage, the exclusive holder and the writeback, and zeros.
+fn put_values(head: Head, out: &mut [u8])
+    requires { ⌜ length (now out) ≡ 2 * lineSize ⌝ }
+    ensures { λ _. ⌜ now (out .exit) ≡ valueBytes head ⌝ }
+{
+    let storage = head.storage;
+    let exc = head.exc_state;
+    let writeback = head.writeback_state;
+    wire::write_u64(&mut out[0..SECOND], stored_value(storage));
+    wire::write_u64(&mut out[SECOND..THIRD], exc_value(exc));
+    wire::write_u64(&mut out[THIRD..ZEROS], writeback_value(writeback));
+    wire::write_u64(&mut out[ZEROS..VALUES], 0);
+}
+
+// The entry at a place: that of the reader who is listed there, or zeros.
+fn put_entry(readers: Readers, i: usize, out: &mut [u8])
+    requires { ⌜ i < capacity ⌝ }
+    ensures { λ _. ⌜ now (out .exit) ≡ putTo (firstEntry (drop i (live readers))) (now (out .entry)) ⌝ }
+{
+    let len = readers.len;
+    if len <= i {
+        wire::put(out, 0, 0, 0, 0);
+        return;
+    }
+    let reader = readers.items[i];
+    let phase = reader.phase;
+    let bucket = reader.bucket;
+    wire::put(out, phase_number(phase), bucket.0, 0, phase_value(phase));
+}
+
+// An entry for each place of the list.
+fn put_list(readers: Readers, out: &mut [u8])
+    requires { ⌜ length (now out) ≡ lineSize * capacity ⌝ }
+    ensures { λ _. ⌜ now (out .exit) ≡ entries capacity (live readers) ⌝ }
+{
+    let mut i: usize = 0;
+    while i < CAPACITY {
+        let at = LINE * i;
+        let next = at + LINE;
+        put_entry(readers, i, &mut out[at..next]);
+        i += 1;
+    }
 }
 
 // Fills the bytes with the page's image, sound or not.

@@ -1,4 +1,4 @@
--- `image::lists::put_entry` meets its contract: the line of the reader at the place, or of zeros. Assumes nothing.
+-- `image::put_entry` meets its contract: the line of the reader at the place, or of zeros. Assumes nothing.
 use Prim.Native.Nat.{ℕ, _<_}
 use mathlib.Core.List.{List}
 use mathlib.Core.Path.{_≡_, ap, _∙_, sym}
@@ -14,8 +14,8 @@ use Rattle.wire.specs.Bytes.{lineWith}
 use Rattle.image.specs.Carried.{phaseValue}
 use Rattle.image.specs.Images.{entryOf}
 use Rattle.image.proofs.Listing.{entry-past, entry-at}
-use Rattle.image.proofs.lists.put_entry.Statement.{statement}
-use Rattle.image.proofs.lists.put_entry.Tie as tie
+use Rattle.image.proofs.put_entry.Statement.{statement}
+use Rattle.image.proofs.put_entry.Tie as tie
 
 by-parts : (r : Reader) (n v : ℕ) (l : List ℕ) → n ≡ phaseNumber (r .phase) → v ≡ phaseValue (r .phase)
     → putTo (lineWith n (r .bucket .0) 0 v) l ≡ putTo (entryOf r) l

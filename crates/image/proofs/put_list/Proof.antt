@@ -1,4 +1,4 @@
--- `image::lists::put_list` meets its contract: all the entries are those that stand before the place of i, and those still to come.
+-- `image::put_list` meets its contract: all the entries are those that stand before the place of i, and those still to come.
 -- Assumes nothing.
 use Prim.Native.Nat.{ℕ, _+_, _*_, _-_, _≤_, _<_}
 use mathlib.Core.List.{List, _++_, append-nil}
@@ -12,8 +12,8 @@ use Rattle.kinds.specs.Limits.{lineSize, capacity}
 use Rattle.readers.specs.Listed.{live}
 use Rattle.image.specs.Images.{entries}
 use Rattle.image.proofs.Listing.{put-length, line-turn, no-lines}
-use Rattle.image.proofs.lists.put_list.Statement.{statement}
-use Rattle.image.proofs.lists.put_list.Tie as tie
+use Rattle.image.proofs.put_list.Statement.{statement}
+use Rattle.image.proofs.put_list.Tie as tie
 
 record Filling (l : List Reader) (out : List ℕ) (i : ℕ) : Type 0 where
   most : i ≤ capacity

@@ -1,9 +1,9 @@
--- `image::heads::put_values` meets its contract: each return, by what its tests, its matches and its calls showed. Assumes nothing.
+-- `image::put_values` meets its contract: each return, by what its tests, its matches and its calls showed. Assumes nothing.
 use native.Mathlib.Omega.{arith}
 use borrow.Author.Needs.{needs}
 use Rattle.image.proofs.Heading.{four-numbers, values-are}
-use Rattle.image.proofs.heads.put_values.Statement.{statement}
-use Rattle.image.proofs.heads.put_values.Tie as tie
+use Rattle.image.proofs.put_values.Statement.{statement}
+use Rattle.image.proofs.put_values.Tie as tie
 
 pub put-values-spec : {M : Type 1} → statement M
 put-values-spec =
