@@ -1,23 +1,12 @@
-// What a holder, a reader or storage carries, as an image has it: zero where its kind carries no such thing.
+// What a holder or a reader carries, as an image has it: zero where its kind carries no such thing.
 ghost use mathlib.Core.Path.{_≡_};
-ghost use Rattle.page_record.specs.Holders.{valueOf, excClean, excValue, writebackValue};
+ghost use Rattle.page_record.specs.Holders.{excClean, excValue, writebackValue};
 ghost use Rattle.image.specs.Carried.{phaseValue, excBucketNumber, loadingBucketNumber};
 use kinds::ExcState;
 use kinds::LoadingState;
 use kinds::Phase;
-use kinds::Storage;
 use kinds::WritebackState;
 use kinds::bucket_number;
-
-// Storage's value.
-pub fn stored_value(s: Storage) -> u64
-    ensures { λ r. ⌜ r ≡ valueOf s ⌝ }
-{
-    match s {
-        Storage::Out => 0,
-        Storage::In(value) => value,
-    }
-}
 
 // The value of a reader that has come through.
 pub fn phase_value(p: Phase) -> u64

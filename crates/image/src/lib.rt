@@ -12,20 +12,20 @@ ghost use Rattle.image.specs.Keeping.{isImage, readVerdict, restoredFrom
 
 mod carried;
 mod decoding;
-mod heads;
+mod lines;
 mod places;
 mod same;
 
 use carried::exc_value;
 use carried::phase_value;
-use carried::stored_value;
 use carried::writeback_value;
 pub use decoding::decode;
-use heads::count_bytes;
-use heads::kind_bytes;
+use heads::value_of;
 use kinds::CAPACITY;
 use kinds::LINE;
 use kinds::phase_number;
+use lines::count_bytes;
+use lines::kind_bytes;
 use page_record::Head;
 use page_record::Page;
 use page_record::fresh;
@@ -70,7 +70,7 @@ fn put_values(head: Head, out: &mut [u8])
     let storage = head.storage;
     let exc = head.exc_state;
     let writeback = head.writeback_state;
-    wire::write_u64(&mut out[0..SECOND], stored_value(storage));
+    wire::write_u64(&mut out[0..SECOND], value_of(storage));
     wire::write_u64(&mut out[SECOND..THIRD], exc_value(exc));
     wire::write_u64(&mut out[THIRD..ZEROS], writeback_value(writeback));
     wire::write_u64(&mut out[ZEROS..VALUES], 0);

@@ -39,8 +39,8 @@ put-values-spec =
     let g1 = u1 .before in
     let s = g1 .before .before .before in
     let old = s .args .out .now in
-    values-are (s .args .head) _ _ _ _ (g1 .stored-value .ensures) (g2 .exc-value .ensures) (g3 .writeback-value .ensures)
+    values-are (s .args .head) _ _ _ _ (g1 .value-of .ensures) (g2 .exc-value .ensures) (g3 .writeback-value .ensures)
     (four-numbers old (u1 .write-u64 .last .0) (u2 .write-u642 .last .0) (u3 .write-u643 .last .0) (u4 .write-u644 .last .0)
-    (g1 .stored-value .result) (g2 .exc-value .result) (g3 .writeback-value .result) 0 8 16 24 32
+    (g1 .value-of .result) (g2 .exc-value .result) (g3 .writeback-value .result) 0 8 16 24 32
     (omega arith) (omega arith) (omega arith) (omega arith) (omega arith) (s .pre)
     (u1 .write-u64 .ensures) (u2 .write-u642 .ensures) (u3 .write-u643 .ensures) (u4 .write-u644 .ensures))))

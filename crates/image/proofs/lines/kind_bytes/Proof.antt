@@ -1,4 +1,4 @@
--- `image::heads::kind_bytes` meets its contract: each byte, by the call that gives it. Assumes nothing.
+-- `image::lines::kind_bytes` meets its contract: each byte, by the call that gives it. Assumes nothing.
 use Prim.Native.Nat.{ℕ, _/_, _%_}
 use mathlib.Core.Bool.{Bool}
 use mathlib.Core.List.{List, [], _∷_}
@@ -12,8 +12,8 @@ use Rattle.page_record.specs.declared.Head.{Head}
 use Rattle.page_record.specs.Holders.{excVisited, excClean}
 use Rattle.image.specs.Carried.{excBucketNumber, loadingBucketNumber}
 use Rattle.image.specs.Images.{kindBytes}
-use Rattle.image.proofs.heads.kind_bytes.Statement.{statement}
-use Rattle.image.proofs.heads.kind_bytes.Tie as tie
+use Rattle.image.proofs.lines.kind_bytes.Statement.{statement}
+use Rattle.image.proofs.lines.kind_bytes.Tie as tie
 
 by-parts : (h : Head) (len f s e b l d w : ℕ) (v : Visited) (c : Bool)
     → f ≡ flagNumber (h .flag) → s ≡ storageNumber (h .storage) → e ≡ excNumber (h .«exc_state»)

@@ -1,9 +1,9 @@
--- `image::heads::count_bytes` meets its contract: each return, by what its tests, its matches and its calls showed. Assumes nothing.
+-- `image::lines::count_bytes` meets its contract: each return, by what its tests, its matches and its calls showed. Assumes nothing.
 use mathlib.Core.Path.{refl}
 use borrow.Author.Needs.{needs}
 use Rattle.image.specs.Images.{countBytes}
-use Rattle.image.proofs.heads.count_bytes.Statement.{statement}
-use Rattle.image.proofs.heads.count_bytes.Tie as tie
+use Rattle.image.proofs.lines.count_bytes.Statement.{statement}
+use Rattle.image.proofs.lines.count_bytes.Tie as tie
 
 pub count-bytes-spec : {M : Type 1} → statement M
 unfolding countBytes
