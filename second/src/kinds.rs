@@ -214,7 +214,7 @@ impl Request {
 pub enum Refusal {
     /// The record is not sound.
     NotSound = 1,
-    /// The step is not 1 to 24.
+    /// The step is not 1 to 30.
     UnknownStep = 2,
     /// A field not taken is not zero, bytes 3 to 7 are not zero, or clean is above 1.
     BadField = 3,

@@ -1,9 +1,10 @@
 //! A second implementation of the page lock, in ordinary Rust.
 //!
 //! It was written from the rules and from the source model
-//! `examples/scache/rwlock.rs` (MIT) alone, and uses the source's names. Its
-//! purpose is comparison: two programs made apart from each other should give
-//! the same answers, byte for byte. `ops` makes streams of operations, and
+//! `examples/scache/rwlock.rs` (MIT) alone, and uses the source's names, and the
+//! rules' own for the steps that the source does not have. Its purpose is
+//! comparison: two programs made apart from each other should give the same
+//! answers, byte for byte. `ops` makes streams of operations, and
 //! `drill` does them; whatever stream goes in, both drills must write the same.
 
 pub mod drill;

@@ -1,5 +1,6 @@
-//! The 24 steps. Each is a function by the source's name; it looks at all its
-//! premises, in the order of their numbers, before it changes anything.
+//! The 30 steps. Each is a function by its name in the rules, which for 1 to 24
+//! is the source's; it looks at all its premises, in the order of their numbers,
+//! before it changes anything.
 
 use crate::kinds::{
     Answer, BucketId, Count, ExcState, Flag, LoadingState, Refusal, Request, SharedState,
@@ -31,7 +32,7 @@ pub fn step_in_place(page: &mut Page, request: &Request) -> Answer {
 
 /// Whether there is a step of this number.
 pub fn known(step: u8) -> bool {
-    (1..=24).contains(&step)
+    (1..=30).contains(&step)
 }
 
 /// Whether the step takes a bucket.
@@ -46,7 +47,7 @@ pub fn takes_clean(step: u8) -> bool {
 
 /// Whether the step takes a value.
 pub fn takes_value(step: u8) -> bool {
-    matches!(step, 4 | 9 | 10 | 16 | 17 | 22)
+    matches!(step, 4 | 9 | 10 | 16 | 17 | 22 | 29 | 30)
 }
 
 /// Refusals 2 to 4, in that order.
@@ -105,6 +106,12 @@ fn take(page: &mut Page, request: &Request) -> Answer {
         22 => shared_dec_count_obtained(page, bucket, value),
         23 => shared_check_exc(page, bucket),
         24 => shared_check_loading(page, bucket),
+        25 => discard_claim(page),
+        26 => claim_to_shared(page),
+        27 => pending_to_claim(page),
+        28 => cancel_exc_lock_to_claim(page),
+        29 => deposit_exc_lock_to_done(page, value),
+        30 => deposit_exc_lock_to_unmapped(page, value),
         _ => Err(Refusal::UnknownStep),
     }
 }
@@ -154,9 +161,7 @@ fn shared_to_claim(page: &mut Page, bucket: BucketId, value: StoredType) -> Answ
 }
 
 fn claim_to_pending(page: &mut Page) -> Answer {
-    let Some(ExcState::Claim { bucket, value }) = page.exc_state else {
-        return Err(Refusal::NoHolder);
-    };
+    let (bucket, value) = claim(page)?;
     page.flag = match page.flag {
         Flag::Claimed => Flag::PendingExcLock,
         Flag::WritebackAndClaimed => Flag::WritebackAndPendingExcLock,
@@ -234,7 +239,7 @@ fn withdraw_take_exc_lock_finish(page: &mut Page) -> Answer {
 }
 
 fn deposit_downgrade_exc_lock(page: &mut Page, value: StoredType) -> Answer {
-    let bucket = editor_bucket(page)?;
+    let bucket = editor_bucket(page)?.ok_or(Refusal::HolderBucket)?;
     list_room(page)?;
     page.exc_state = None;
     page.flag = Flag::Available;
@@ -245,7 +250,7 @@ fn deposit_downgrade_exc_lock(page: &mut Page, value: StoredType) -> Answer {
 }
 
 fn deposit_downgrade_exc_lock_to_claim(page: &mut Page, value: StoredType) -> Answer {
-    let bucket = editor_bucket(page)?;
+    let bucket = editor_bucket(page)?.ok_or(Refusal::HolderBucket)?;
     page.exc_state = Some(ExcState::Claim {
         bucket: Some(bucket),
         value,
@@ -333,9 +338,7 @@ fn deposit_loading_to_done(page: &mut Page, value: StoredType) -> Answer {
     page.loading_state = None;
     page.flag = Flag::Available;
     page.storage = Some(value);
-    if let Some(bucket) = bucket {
-        count_down(page, bucket);
-    }
+    give_up(page, bucket);
     Ok(None)
 }
 
@@ -387,6 +390,76 @@ fn shared_check_loading(page: &mut Page, bucket: BucketId) -> Answer {
     Ok(None)
 }
 
+// Giving back. The source has none of these.
+
+fn discard_claim(page: &mut Page) -> Answer {
+    let (bucket, _) = claim(page)?;
+    page.exc_state = None;
+    page.flag = unclaimed(page.flag);
+    give_up(page, bucket);
+    Ok(None)
+}
+
+/// The claimant keeps its reference: it stays as a reader.
+fn claim_to_shared(page: &mut Page) -> Answer {
+    let (bucket, value) = claim(page)?;
+    let bucket = bucket.ok_or(Refusal::HolderBucket)?;
+    list_room(page)?;
+    page.exc_state = None;
+    page.flag = unclaimed(page.flag);
+    page.shared_state
+        .push(SharedState::Obtained { bucket, value });
+    Ok(None)
+}
+
+fn pending_to_claim(page: &mut Page) -> Answer {
+    let Some(ExcState::PendingAwaitWriteback { bucket, value }) = page.exc_state else {
+        return Err(Refusal::NoHolder);
+    };
+    page.flag = match page.flag {
+        Flag::PendingExcLock => Flag::Claimed,
+        Flag::WritebackAndPendingExcLock => Flag::WritebackAndClaimed,
+        _ => unreachable!("rules 2 and 6: a claimant that waits shows in the flag"),
+    };
+    page.exc_state = Some(ExcState::Claim { bucket, value });
+    Ok(None)
+}
+
+/// However many buckets were visited, all of them are open again.
+fn cancel_exc_lock_to_claim(page: &mut Page) -> Answer {
+    let Some(ExcState::Pending {
+        bucket,
+        visited_count: _,
+        clean: _,
+        value,
+    }) = page.exc_state
+    else {
+        return Err(Refusal::NoHolder);
+    };
+    page.exc_state = Some(ExcState::Claim { bucket, value });
+    page.flag = Flag::Claimed;
+    Ok(None)
+}
+
+fn deposit_exc_lock_to_done(page: &mut Page, value: StoredType) -> Answer {
+    deposit_exc_lock(page, value, Flag::Available)
+}
+
+/// Rule 7 has only Pending readers beside an editor, and those may stay.
+fn deposit_exc_lock_to_unmapped(page: &mut Page, value: StoredType) -> Answer {
+    deposit_exc_lock(page, value, Flag::Unmapped)
+}
+
+/// The editor puts the value in and leaves; the page gets this flag.
+fn deposit_exc_lock(page: &mut Page, value: StoredType, flag: Flag) -> Answer {
+    let bucket = editor_bucket(page)?;
+    page.exc_state = None;
+    page.flag = flag;
+    page.storage = Some(value);
+    give_up(page, bucket);
+    Ok(None)
+}
+
 // Shared premises.
 
 fn allow(holds: bool, refusal: Refusal) -> Result<(), Refusal> {
@@ -415,10 +488,18 @@ fn find(page: &Page, reader: SharedState) -> Result<usize, Refusal> {
         .ok_or(Refusal::NoHolder)
 }
 
-/// The bucket of an editor that is Obtained, which must have one.
-fn editor_bucket(page: &Page) -> Result<BucketId, Refusal> {
+/// The bucket of a claim, if it has one, and its value.
+fn claim(page: &Page) -> Result<(Option<BucketId>, StoredType), Refusal> {
     match page.exc_state {
-        Some(ExcState::Obtained { bucket, .. }) => bucket.ok_or(Refusal::HolderBucket),
+        Some(ExcState::Claim { bucket, value }) => Ok((bucket, value)),
+        _ => Err(Refusal::NoHolder),
+    }
+}
+
+/// The bucket of an editor that is Obtained, if it has one.
+fn editor_bucket(page: &Page) -> Result<Option<BucketId>, Refusal> {
+    match page.exc_state {
+        Some(ExcState::Obtained { bucket, .. }) => Ok(bucket),
         _ => Err(Refusal::NoHolder),
     }
 }
@@ -461,6 +542,22 @@ fn count_up(page: &mut Page, bucket: BucketId) {
 /// Rule 5 has the count above 0 wherever a holder at the bucket leaves.
 fn count_down(page: &mut Page, bucket: BucketId) {
     page.ref_counts[bucket.index()].0 -= 1;
+}
+
+/// Takes off the reference of a holder that leaves, if it has one.
+fn give_up(page: &mut Page, bucket: Option<BucketId>) {
+    if let Some(bucket) = bucket {
+        count_down(page, bucket);
+    }
+}
+
+/// The flag without its claim.
+fn unclaimed(flag: Flag) -> Flag {
+    match flag {
+        Flag::Claimed => Flag::Available,
+        Flag::WritebackAndClaimed => Flag::Writeback,
+        _ => unreachable!("rules 2 and 6: a claim shows in the flag"),
+    }
 }
 
 /// Takes the first equal reader off the list, and its reference with it.

@@ -4,7 +4,7 @@ use crate::kinds::Refusal;
 use crate::steps::{takes_bucket, takes_clean, takes_value};
 use crate::wire::{read_answer, value_at, RECORD};
 
-const STEPS: [&str; 24] = [
+const STEPS: [&str; 30] = [
     "take_writeback",
     "release_writeback",
     "bucketless_claim",
@@ -29,6 +29,12 @@ const STEPS: [&str; 24] = [
     "shared_dec_count_obtained",
     "shared_check_exc",
     "shared_check_loading",
+    "discard_claim",
+    "claim_to_shared",
+    "pending_to_claim",
+    "cancel_exc_lock_to_claim",
+    "deposit_exc_lock_to_done",
+    "deposit_exc_lock_to_unmapped",
 ];
 
 /// Each request beside its answer, the bytes of both below; or one line, where

@@ -7,7 +7,7 @@ const EXAMPLE: [u8; 16] = [0x16, 1, 0, 0, 0, 0, 0, 0, 5, 0, 0, 0, 0, 0, 0, 0];
 
 fn all_fields() -> Vec<Request> {
     let mut all = Vec::new();
-    for step in 0..=26 {
+    for step in 0..=32 {
         for bucket in [0, 1, 2, 3, 4, 255] {
             for clean in [0, 1, 2, 255] {
                 for value in [0, 1, 5, 0x0102_0304_0506_0708, StoredType::MAX] {
@@ -66,9 +66,9 @@ fn reading_accepts_exactly_what_writing_produces() {
             }
         }
     }
-    // Ten steps take nothing, one a choice, four a value, seven a bucket, and
-    // two a bucket and a value.
-    assert_eq!(accepted, 10 + 2 + 4 * 5 + 7 * 4 + 2 * 4 * 5);
+    // Fourteen steps take nothing, one a choice, six a value, seven a bucket,
+    // and two a bucket and a value.
+    assert_eq!(accepted, 14 + 2 + 6 * 5 + 7 * 4 + 2 * 4 * 5);
 }
 
 #[test]
@@ -87,7 +87,7 @@ fn bytes_3_to_7_are_zero() {
         assert_eq!(read_request(&line), Err(Refusal::BadField));
         line[1] = 4;
         assert_eq!(read_request(&line), Err(Refusal::BadField));
-        line[0] = 25;
+        line[0] = 31;
         assert_eq!(read_request(&line), Err(Refusal::UnknownStep));
     }
 }

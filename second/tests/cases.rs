@@ -1,5 +1,8 @@
-//! Cases A to J, line by line.
+//! Cases A to M, line by line.
 
+mod common;
+
+use common::history::History;
 use second::kinds::{Answer, BucketId, Flag, Refusal, Request, SharedState, StoredType};
 use second::record::{fresh, sound, Page};
 use second::run::run;
@@ -226,7 +229,7 @@ fn refused(request: Request, refusal: Refusal) {
 fn f() {
     refused(at(13, 9), Refusal::BadBucket);
     refused(at(13, 0), Refusal::NoHolder);
-    refused(at(25, 4), Refusal::UnknownStep);
+    refused(at(31, 4), Refusal::UnknownStep);
     refused(at(1, 1), Refusal::BadField);
 }
 
@@ -276,4 +279,129 @@ fn j() {
     assert_eq!(of(2_048 * 16), Ok(()));
     assert_eq!(of(2_049 * 16), Err(Refusal::TooMany));
     assert_eq!(of(15), Err(Refusal::NotWhole));
+}
+
+/// The departures from each bucket along these lines, from this page on.
+fn departures(page: &Page, lines: &[Line]) -> [usize; 4] {
+    let mut history = History::before(page);
+    for line in lines {
+        history.accepted(&line.request, line.answer.unwrap());
+    }
+    history.departures
+}
+
+#[test]
+fn k() {
+    use Flag::{
+        Available, Claimed, ExcLockDirty as Dirty, Loading, LoadingExcLock, PendingExcLock,
+        Unmapped,
+    };
+    let none = [0, 0, 0, 0];
+    let visit = || line(plain(7), Ok(None), Dirty, none, Some(5));
+    let lines = [
+        line(plain(11), Ok(Some(0)), LoadingExcLock, none, None),
+        line(at(13, 2), Ok(None), LoadingExcLock, [0, 0, 1, 0], None),
+        line(plain(14), Ok(None), Loading, [0, 0, 1, 0], None),
+        line(with(17, 5), Ok(None), Available, none, Some(5)),
+        line(plain(3), Ok(None), Claimed, none, Some(5)),
+        line(plain(5), Ok(None), PendingExcLock, none, Some(5)),
+        line(choosing(6, 0), Ok(None), Dirty, none, Some(5)),
+        visit(),
+        visit(),
+        visit(),
+        visit(),
+        line(plain(8), Ok(Some(5)), Dirty, none, None),
+        line(with(30, 9), Ok(None), Unmapped, none, Some(9)),
+        line(plain(12), Ok(Some(9)), Loading, none, None),
+        line(with(17, 1), Ok(None), Available, none, Some(1)),
+    ];
+    assert_eq!(play(fresh(0), &lines[..13]), fresh(9));
+    play(fresh(0), &lines);
+    assert_eq!(departures(&fresh(0), &lines), [0, 0, 1, 0]);
+
+    let reader = [0, 0, 0, 1];
+    let page = play(
+        play(fresh(0), &lines[..12]),
+        &[
+            line(at(19, 3), Ok(None), Dirty, reader, None),
+            line(with(30, 9), Ok(None), Unmapped, reader, Some(9)),
+        ],
+    );
+    let pending = SharedState::Pending {
+        bucket: BucketId(3),
+    };
+    assert_eq!(page.shared_state.listed(), [pending]);
+    assert_eq!(page.exc_state, None);
+}
+
+#[test]
+fn l() {
+    use Flag::{Available, Claimed};
+    let none = [0, 0, 0, 0];
+    let claim = Request::new(4, 1, 0, 5);
+    let lines = [
+        line(claim, Ok(None), Claimed, [0, 1, 0, 0], Some(5)),
+        line(plain(25), Ok(None), Available, none, Some(5)),
+        line(plain(3), Ok(None), Claimed, none, Some(5)),
+        line(plain(25), Ok(None), Available, none, Some(5)),
+    ];
+    let page = play(case_b(), &lines);
+    assert!(page.shared_state.listed().is_empty());
+    assert_eq!(page.exc_state, None);
+    assert_eq!(departures(&case_b(), &lines), [0, 1, 0, 0]);
+}
+
+#[test]
+fn m() {
+    use Flag::{
+        Available, Claimed, ExcLockClean, PendingExcLock, Writeback, WritebackAndClaimed,
+        WritebackAndPendingExcLock as BothPending,
+    };
+    let own = [0, 1, 0, 0];
+    let two = [0, 1, 0, 1];
+    let claim = Request::new(4, 1, 0, 5);
+    let lines = [
+        line(plain(1), Ok(None), Writeback, own, Some(5)),
+        line(claim, Ok(None), WritebackAndClaimed, own, Some(5)),
+        line(plain(5), Ok(None), BothPending, own, Some(5)),
+        line(plain(27), Ok(None), WritebackAndClaimed, own, Some(5)),
+        line(plain(5), Ok(None), BothPending, own, Some(5)),
+        line(plain(2), Ok(None), PendingExcLock, own, Some(5)),
+        line(plain(27), Ok(None), Claimed, own, Some(5)),
+        line(plain(5), Ok(None), PendingExcLock, own, Some(5)),
+        line(choosing(6, 1), Ok(None), ExcLockClean, own, Some(5)),
+        line(plain(7), Ok(None), ExcLockClean, own, Some(5)),
+        line(plain(28), Ok(None), Claimed, own, Some(5)),
+        line(at(19, 3), Ok(None), Claimed, two, Some(5)),
+        line(plain(26), Ok(None), Available, two, Some(5)),
+    ];
+    let page = play(case_b(), &lines);
+    let pending = SharedState::Pending {
+        bucket: BucketId(3),
+    };
+    let obtained = SharedState::Obtained {
+        bucket: BucketId(1),
+        value: 5,
+    };
+    assert_eq!(page.shared_state.listed(), [pending, obtained]);
+    assert_eq!(page.exc_state, None);
+    assert_eq!(page.writeback_state, None);
+    assert_eq!(departures(&case_b(), &lines), [0, 0, 0, 0]);
+
+    // What is given back leaves the page that it was taken from.
+    let after = |number: usize| play(case_b(), &lines[..number]);
+    assert_eq!(after(4), after(2));
+    assert_eq!(after(11), after(7));
+
+    let back = [
+        line(plain(26), Ok(None), Writeback, own, Some(5)),
+        line(plain(2), Ok(None), Available, own, Some(5)),
+    ];
+    let page = play(after(4), &back[..1]);
+    assert_eq!(page, after(1));
+    assert_eq!(page.shared_state.listed(), [obtained]);
+    let page = play(page, &back[1..]);
+    assert_eq!(page, case_b());
+    assert_eq!(page.shared_state.listed(), [obtained]);
+    assert_eq!(departures(&after(4), &back), [0, 0, 0, 0]);
 }

@@ -313,7 +313,7 @@ fn unreadable() -> Vec<(Vec<u8>, u8)> {
         ([ask(19, 0, 0, 0), ask(19, 0, 0, 0)].concat(), 12),
         ([0; 17].to_vec(), 12),
         (ask(0, 0, 0, 0), 2),
-        (ask(25, 9, 9, 9), 2),
+        (ask(31, 9, 9, 9), 2),
         (ask(19, 0, 1, 0), 3),
         (ask(19, 9, 0, 1), 3),
         (ask(6, 0, 2, 0), 3),
@@ -368,7 +368,7 @@ const UNSOUND: [u8; 32] = [
 fn a_run_answers_each_request_and_leaves_the_rest_of_its_buffer() {
     let requests = [
         ask(12, 0, 0, 0),
-        ask(25, 0, 0, 0),
+        ask(31, 0, 0, 0),
         ask(19, 2, 0, 0),
         ask(16, 0, 0, 5),
         ask(17, 0, 0, 5),
@@ -511,7 +511,7 @@ fn operation_5_refuses_2_to_4_and_then_14() {
     for room in [0, 1, 15] {
         let cases = [
             (vec![], 2),
-            (ask(25, 4, 2, 1), 2),
+            (ask(31, 4, 2, 1), 2),
             (ask(19, 9, 1, 0), 3),
             (ask(1, 0, 0, 1), 3),
             (ask(6, 0, 2, 0), 3),
@@ -978,6 +978,205 @@ fn operation_8_gives_a_fresh_page_of_0_where_it_refuses() {
         withdrawn[1] = 1;
         let expected = [line(0), line(refusal), withdrawn].concat();
         assert_eq!(answers(&stream), expected, "the value is 0");
+    }
+}
+
+// Giving back.
+
+/// What is written after the page of this operation and payload is asked this,
+/// by value and lent, which is the same.
+fn asked_of(operation: u8, payload: &[u8], request: Vec<u8>) -> Vec<u8> {
+    let written = [2, 3].map(|number| {
+        let stream = [
+            op(operation, 0, payload),
+            op(number, 0, &request),
+            look(),
+            op(9, 1_088, &[]),
+        ];
+        answers(&stream)
+    });
+    assert_eq!(written[0], written[1]);
+    assert_eq!(written[0][..16], line(0));
+    written[0][16..].to_vec()
+}
+
+/// The claim of the busy page becomes the last reader, at its bucket and with its
+/// value, and no count changes.
+#[test]
+fn the_claim_of_a_busy_page_becomes_a_reader() {
+    let value = [1, 2, 3, 4, 5, 6, 7, 8];
+    let mut image = busy_image();
+    image[..6].copy_from_slice(&[5, 1, 4, 0, 0, 0]);
+    image[40..48].fill(0);
+    image[112..114].copy_from_slice(&[3, 2]);
+    image[120..128].copy_from_slice(&value);
+    let expected = [
+        line(0),
+        vec![0, 0, 0, 0, 1, 0, 0, 0, 0, 0, 0, 0, 2, 0, 1, 0],
+        vec![5, 1, 4, 0, 1, 0, 2, 1, 1, 2, 3, 4, 5, 6, 7, 8],
+        vec![3, 2, 0, 0, 0, 0, 0, 0, 1, 2, 3, 4, 5, 6, 7, 8],
+        vec![1, 0, 0, 0, 0, 0, 0, 0, 0, 0, 0, 0, 0, 0, 0, 0],
+        vec![2, 3, 0, 0, 0, 0, 0, 0, 0, 0, 0, 0, 0, 0, 0, 0],
+        vec![3, 2, 0, 0, 0, 0, 0, 0, 1, 2, 3, 4, 5, 6, 7, 8],
+        line(0),
+        image,
+    ];
+    for (operation, payload) in [(7, busy()), (8, busy_image())] {
+        let written = asked_of(operation, &payload, ask(26, 0, 0, 0));
+        assert_eq!(written, expected.concat());
+    }
+}
+
+/// It goes, and there is one less at its bucket.
+#[test]
+fn the_claim_of_a_busy_page_is_dropped() {
+    let mut image = busy_image();
+    image[..6].copy_from_slice(&[5, 1, 3, 0, 0, 0]);
+    image[18] = 1;
+    image[40..48].fill(0);
+    let expected = [
+        line(0),
+        vec![0, 0, 0, 0, 1, 0, 0, 0, 0, 0, 0, 0, 1, 0, 1, 0],
+        vec![5, 1, 3, 0, 1, 0, 1, 1, 1, 2, 3, 4, 5, 6, 7, 8],
+        vec![3, 2, 0, 0, 0, 0, 0, 0, 1, 2, 3, 4, 5, 6, 7, 8],
+        vec![1, 0, 0, 0, 0, 0, 0, 0, 0, 0, 0, 0, 0, 0, 0, 0],
+        vec![2, 3, 0, 0, 0, 0, 0, 0, 0, 0, 0, 0, 0, 0, 0, 0],
+        line(0),
+        image,
+    ];
+    for (operation, payload) in [(7, busy()), (8, busy_image())] {
+        let written = asked_of(operation, &payload, ask(25, 0, 0, 0));
+        assert_eq!(written, expected.concat());
+    }
+}
+
+/// A claim without a bucket beside a reader at bucket 0: it goes, and the counts
+/// stay; but it cannot become a reader.
+#[test]
+fn a_claim_without_a_bucket_leaves_the_counts() {
+    let reader = [(2, 1), (16, 1), (64, 1)];
+    let claimed = raw(&[&reader[..], &[(0, 4), (4, 1), (5, 255)]].concat());
+    let left = raw(&[&reader[..], &[(0, 3)]].concat());
+    let written = asked_of(7, &claimed, ask(25, 0, 0, 0));
+    assert_eq!(written[..16], line(0));
+    assert_eq!(written[written.len() - 1_088..], left);
+    let written = asked_of(7, &claimed, ask(26, 0, 0, 0));
+    assert_eq!(written[..16], line(7));
+    assert_eq!(written[written.len() - 1_088..], claimed);
+}
+
+/// A claimant that waits beside the archive, and alone.
+#[test]
+fn a_claimant_stops_waiting() {
+    let mut waiting = busy_image();
+    waiting[0] = 7;
+    waiting[4] = 2;
+    let written = asked_of(8, &waiting, ask(27, 0, 0, 0));
+    assert_eq!(written[..16], line(0));
+    assert_eq!(written[written.len() - 1_088..], busy_image());
+    for bucket in [0, 3] {
+        let count = (16 + usize::from(bucket), 1);
+        let waiting = raw(&[(0, 8), (4, 2), (5, bucket), count]);
+        let written = asked_of(8, &waiting, ask(27, 0, 0, 0));
+        let claimed = raw(&[(0, 4), (4, 1), (5, bucket), count]);
+        assert_eq!(written[written.len() - 1_088..], claimed);
+    }
+}
+
+/// After any number of visits, clean or not.
+#[test]
+fn a_claimant_turns_back() {
+    for visited in 0..=4 {
+        for (flag, clean) in [(10, 0), (9, 1)] {
+            let holder = [(0, flag), (4, 3), (6, visited), (7, clean)];
+            let own = [(5, 2), (18, 1)];
+            let visiting = raw(&[&holder[..], &own].concat());
+            let written = asked_of(8, &visiting, ask(28, 0, 0, 0));
+            let claimed = raw(&[&[(0, 4), (4, 1)], &own[..]].concat());
+            assert_eq!(written[..16], line(0));
+            assert_eq!(written[written.len() - 1_088..], claimed);
+        }
+    }
+}
+
+/// An editor at bucket 3 and one without a bucket, beside a reader at bucket 0.
+/// The page is in with what they put in, and the next loader gets just that.
+#[test]
+fn an_editor_leaves() {
+    let value = 0x0807_0605_0403_0201;
+    let reader = [(2, 1), (16, 1), (64, 1)];
+    let out = [(0, 9), (1, 0), (4, 4), (7, 1)];
+    for own in [&[(5, 3), (19, 1)][..], &[(5, 255)]] {
+        let editing = raw(&[&reader[..], &out, own].concat());
+        for (step, flag) in [(29, 3), (30, 0)] {
+            let written = asked_of(8, &editing, ask(step, 0, 0, value));
+            let expected = [
+                line(0),
+                vec![0, 0, 0, 0, 1, 0, 0, 0, 0, 0, 0, 0, 0, 0, 0, 0],
+                vec![flag, 1, 1, 0, 1, 0, 0, 0, 1, 2, 3, 4, 5, 6, 7, 8],
+                vec![1, 0, 0, 0, 0, 0, 0, 0, 0, 0, 0, 0, 0, 0, 0, 0],
+            ];
+            assert_eq!(written[..64], expected.concat());
+        }
+        for load in [11, 12] {
+            let requests = [
+                ask(30, 0, 0, value),
+                ask(30, 0, 0, value),
+                ask(load, 0, 0, 0),
+                ask(29, 0, 0, 1),
+            ];
+            let stream = [op(8, 0, &editing), op(4, 64, &requests.concat())];
+            let expected = [
+                line(0),
+                line(0),
+                line(0),
+                line(6),
+                vec![0, 1, 0, 0, 0, 0, 0, 0, 1, 2, 3, 4, 5, 6, 7, 8],
+                line(6),
+            ];
+            assert_eq!(answers(&stream), expected.concat());
+        }
+    }
+}
+
+/// What the six take: 29 and 30 a value, and nothing else. By every operation
+/// that takes a request.
+#[test]
+fn the_fields_of_the_steps_that_give_back() {
+    for step in 25..=30 {
+        let valued = if step < 29 { 3 } else { 6 };
+        let cases = [
+            (ask(step, 0, 0, 0), 6),
+            (ask(step, 0, 0, 1), valued),
+            (ask(step, 1, 0, 0), 3),
+            (ask(step, 4, 0, 0), 3),
+            (ask(step, 1, 0, 9), 3),
+            (ask(step, 0, 1, 0), 3),
+            (ask(step, 0, 1, 9), 3),
+        ];
+        for (request, number) in cases {
+            let stream = [
+                op(2, 0, &request),
+                op(3, 0, &request),
+                op(4, 16, &request),
+                op(5, 16, &request),
+                look(),
+            ];
+            let (written, buffer) = match number {
+                3 => (3, vec![170; 16]),
+                _ => (0, request),
+            };
+            let expected = [
+                line(number),
+                line(number),
+                line(0),
+                line(number),
+                line(written),
+                buffer,
+                FRESH.to_vec(),
+            ];
+            assert_eq!(answers(&stream), expected.concat());
+        }
     }
 }
 

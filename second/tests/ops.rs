@@ -4,9 +4,12 @@ mod common;
 
 use std::collections::BTreeSet;
 
+use common::history::History;
 use common::{operations, walks, Asked};
 use second::drill::{program, Drill, Operation};
-use second::kinds::{LoadingState, Refusal, Request, StoredType};
+use second::kinds::{
+    answer_number, ExcState, Flag, LoadingState, Refusal, StoredType, CAPACITY, CEILING,
+};
 use second::ops::ends::{end_of, End, ENDS};
 use second::ops::pages::{main_pages, more_pages, without_meaning};
 use second::ops::{stream, Plan, REQUESTS};
@@ -45,8 +48,8 @@ fn a_stream_is_made_the_same_again() {
 #[test]
 fn the_first_stream_is_small() {
     let stream = short(1);
-    assert!((80_000..=150_000).contains(&stream.len()));
-    assert!(answers(&stream).len() <= 250_000);
+    assert!((80_000..=180_000).contains(&stream.len()));
+    assert!(answers(&stream).len() <= 290_000);
 }
 
 #[test]
@@ -217,7 +220,7 @@ fn everything(seen: &Seen) {
         seen.numbers[IN_A_RUN],
         set([0, 2, 3, 4, 5, 6, 7, 8, 9, 10, 11])
     );
-    assert_eq!(seen.accepted[IN_A_RUN], set(1..=24));
+    assert_eq!(seen.accepted[IN_A_RUN], set(1..=30));
     assert_eq!(seen.written, set([0, 2, 3, 4, 14]));
     assert_eq!(seen.raw, set([0, 255]));
     let rules: BTreeSet<_> = (0..=8).map(|rule| (u8::from(rule > 0), rule)).collect();
@@ -279,7 +282,7 @@ fn the_first_stream_has_everything_that_is_cheap() {
     everything(&seen);
     assert_eq!(seen.runs, set([0, 1, 12, 14]));
     let single = &seen.accepted[BY_VALUE] | &seen.accepted[LENT];
-    assert_eq!(single, set(1..=24));
+    assert_eq!(single, set(1..=30));
 }
 
 #[test]
@@ -287,7 +290,7 @@ fn forty_streams_have_everything_in_every_manner() {
     let mut seen = Seen::of((1..=40).map(short));
     everything(&seen);
     for manner in [BY_VALUE, LENT, IN_A_RUN] {
-        assert_eq!(seen.accepted[manner], set(1..=24));
+        assert_eq!(seen.accepted[manner], set(1..=30));
     }
     assert_eq!(seen.restored.flags, set(0..=10));
     assert!(HOLDERS
@@ -298,7 +301,7 @@ fn forty_streams_have_everything_in_every_manner() {
     assert_eq!(seen.runs, set([0, 1, 12, 13, 14]));
     assert_eq!(seen.restored.flags, set(0..=10));
     for manner in [BY_VALUE, LENT, IN_A_RUN] {
-        assert_eq!(seen.accepted[manner], set(1..=24));
+        assert_eq!(seen.accepted[manner], set(1..=30));
     }
 }
 
@@ -372,6 +375,170 @@ fn every_stream_has_loads_without_a_bucket() {
         for number in [1, 2, 3, 4, 23, 24] {
             assert!(seen.after.contains(&number), "seed {seed}: {number}");
         }
+    }
+}
+
+/// What a stream has of the steps that give back.
+#[derive(Default)]
+struct Returns {
+    /// The numbers that each step was given, by the operation.
+    numbers: BTreeSet<(u8, u8, u8)>,
+    /// Where each was accepted: the operation that made the page.
+    origins: BTreeSet<(u8, u8)>,
+    /// The flag that it was accepted under, and whether its holder had a bucket;
+    /// and the bucket.
+    given: BTreeSet<(u8, u8, bool)>,
+    buckets: BTreeSet<(u8, u8)>,
+    /// The visited numbers at which 28 was accepted.
+    visited: BTreeSet<u8>,
+    /// The steps that lowered a count of 31, that were accepted on a full list,
+    /// and that put the page in beside readers.
+    from_ceiling: BTreeSet<u8>,
+    on_full_list: BTreeSet<u8>,
+    beside_readers: BTreeSet<u8>,
+    /// The steps that withdrew the page after 30.
+    loaded_again: Vec<u8>,
+    /// How often the page came to an editor.
+    edited: usize,
+}
+
+impl Returns {
+    fn of(stream: &[u8]) -> Returns {
+        let mut seen = Returns::default();
+        seen.written(stream);
+        for walk in walks(stream) {
+            let mut unmapped = false;
+            for asked in walk.asked.iter().filter(|asked| asked.bytes.len() == 16) {
+                let number = asked.bytes[0];
+                let answer = answer_number(&asked.answer);
+                seen.numbers.insert((asked.operation, number, answer));
+                match (number, answer) {
+                    (8, 0) => seen.edited += 1,
+                    (11 | 12, 0) if unmapped => seen.loaded_again.push(number),
+                    (25..=30, 0) => seen.accepted(walk.origin, number, asked),
+                    _ => (),
+                }
+                unmapped = asked.after.flag == Flag::Unmapped && (unmapped || number == 30);
+            }
+        }
+        seen
+    }
+
+    /// The numbers that each step was given where it was written back.
+    fn written(&mut self, stream: &[u8]) {
+        for operation in operations(stream).0 {
+            if operation.number == 5 && !operation.payload.is_empty() {
+                let answer = Drill::start().perform(&operation).unwrap()[0];
+                self.numbers.insert((5, operation.payload[0], answer));
+            }
+        }
+    }
+
+    fn accepted(&mut self, origin: u8, number: u8, asked: &Asked) {
+        let (before, after) = (&asked.before, &asked.after);
+        let bucket = before.exc_state.and_then(ExcState::bucket);
+        let given = (number, before.flag.number(), bucket.is_some());
+        self.origins.insert((origin, number));
+        self.given.insert(given);
+        self.buckets.extend(bucket.map(|bucket| (number, bucket.0)));
+        if let Some(ExcState::Pending { visited_count, .. }) = before.exc_state {
+            self.visited.insert(visited_count.0);
+        }
+        let mut counts = before.ref_counts.iter().zip(&after.ref_counts);
+        if counts.any(|(before, after)| *before == CEILING && *after != CEILING) {
+            self.from_ceiling.insert(number);
+        }
+        let readers = before.shared_state.listed().len();
+        if readers == CAPACITY {
+            self.on_full_list.insert(number);
+        }
+        if readers > 0 {
+            self.beside_readers.insert(number);
+        }
+    }
+}
+
+/// The flags that each of the six steps is accepted under.
+const GIVEN_UNDER: [(u8, [u8; 2]); 6] = [
+    (25, [4, 6]),
+    (26, [4, 6]),
+    (27, [8, 7]),
+    (28, [9, 10]),
+    (29, [9, 10]),
+    (30, [9, 10]),
+];
+
+#[test]
+fn every_stream_gives_back_in_every_manner() {
+    for seed in 1..=40 {
+        let seen = Returns::of(&short(seed));
+        for number in 25..=30 {
+            let single: &[u8] = if number == 26 {
+                &[0, 1, 3, 6, 7, 11]
+            } else {
+                &[0, 1, 3, 6]
+            };
+            for &answer in single {
+                for operation in [2, 3] {
+                    let asked = (operation, number, answer);
+                    assert!(seen.numbers.contains(&asked), "seed {seed}: {asked:?}");
+                }
+            }
+            for asked in [(4, 0), (4, 3), (4, 6), (5, 0), (5, 3)] {
+                let asked = (asked.0, number, asked.1);
+                assert!(seen.numbers.contains(&asked), "seed {seed}: {asked:?}");
+            }
+            for origin in [1, 7, 8] {
+                assert!(seen.origins.contains(&(origin, number)), "seed {seed}");
+            }
+        }
+        assert!(seen.numbers.contains(&(4, 26, 7)), "seed {seed}");
+        for operation in 2..=5 {
+            for unknown in [0, 31, 255] {
+                let asked = (operation, unknown, 2);
+                assert!(seen.numbers.contains(&asked), "seed {seed}: {asked:?}");
+            }
+        }
+    }
+}
+
+#[test]
+fn every_stream_gives_back_from_everywhere() {
+    for seed in 1..=40 {
+        let seen = Returns::of(&short(seed));
+        for (number, flags) in GIVEN_UNDER {
+            for flag in flags {
+                for bucket in [false, true] {
+                    let given = (number, flag, bucket);
+                    let fits = number != 26 || bucket;
+                    assert_eq!(seen.given.contains(&given), fits, "seed {seed}: {given:?}");
+                }
+            }
+        }
+        for (number, _) in GIVEN_UNDER {
+            for bucket in 0..4 {
+                let at = (number, bucket);
+                assert!(seen.buckets.contains(&at), "seed {seed}: {at:?}");
+            }
+        }
+        assert_eq!(seen.visited, set(0..=4), "seed {seed}");
+        assert_eq!(seen.from_ceiling, set([25, 29, 30]), "seed {seed}");
+        let on_full_list = &seen.on_full_list;
+        assert!(on_full_list.is_superset(&set([25, 29, 30])), "seed {seed}");
+        assert_eq!(seen.beside_readers, set(25..=30), "seed {seed}");
+        let loaded_again = set(seen.loaded_again.iter().copied());
+        assert_eq!(loaded_again, set([11, 12]), "seed {seed}");
+    }
+}
+
+/// Giving back does not keep the others from coming to the page.
+#[test]
+fn a_long_stream_edits_the_page_and_loads_it_again_often() {
+    for seed in 1..=3 {
+        let seen = Returns::of(&long(seed));
+        let (edited, loaded_again) = (seen.edited, seen.loaded_again.len());
+        assert!(edited >= 150, "seed {seed}: {edited}");
+        assert!(loaded_again >= 20, "seed {seed}: {loaded_again}");
     }
 }
 
@@ -584,89 +751,30 @@ fn the_census_adds_up() {
     }
 }
 
-/// The past, kept from accepted requests alone (RULES 9).
-struct History {
-    /// The counts that the page started with.
-    counts: [usize; 4],
-    arrivals: [usize; 4],
-    departures: [usize; 4],
-    /// The bucket that the latest 13 named, if one was accepted since the
-    /// latest 11 or 12.
-    latest_13: Option<usize>,
-    /// The value last put in, where it is known.
-    last_put_in: Option<StoredType>,
-    out: bool,
-}
-
-impl History {
-    /// What is taken to have happened just before a sound page.
-    fn before(page: &Page) -> History {
-        let loader = page.loading_state.and_then(LoadingState::bucket);
-        History {
-            counts: page.ref_counts.map(|count| usize::from(count.0)),
-            arrivals: [0; 4],
-            departures: [0; 4],
-            latest_13: loader.map(|bucket| bucket.index()),
-            last_put_in: page.storage,
-            out: page.storage.is_none(),
-        }
-    }
-
-    fn accepted(&mut self, request: &Request, withdrawn: Option<StoredType>) {
-        let bucket = usize::from(request.bucket);
-        match request.step {
-            13 | 18 | 19 => self.arrivals[bucket] += 1,
-            20..=22 => self.departures[bucket] += 1,
-            17 => {
-                if let Some(bucket) = self.latest_13 {
-                    self.departures[bucket] += 1;
-                }
-            }
-            _ => (),
-        }
-        match request.step {
-            11 | 12 => self.latest_13 = None,
-            13 => self.latest_13 = Some(bucket),
-            _ => (),
-        }
-        match request.step {
-            9 | 10 | 16 | 17 => {
-                assert!(self.out, "put in twice");
-                self.out = false;
-                self.last_put_in = Some(request.value);
-            }
-            8 | 11 | 12 => {
-                assert!(!self.out, "taken out twice");
-                self.out = true;
-                assert!(withdrawn.is_some());
-                assert_eq!(withdrawn, self.last_put_in);
-            }
-            _ => assert_eq!(withdrawn, None),
-        }
-    }
-
-    fn fits(&self, page: &Page) {
-        for bucket in 0..4 {
-            assert_eq!(
-                usize::from(page.ref_counts[bucket].0) + self.departures[bucket],
-                self.counts[bucket] + self.arrivals[bucket]
-            );
-        }
-        assert_eq!(page.storage, self.last_put_in.filter(|_| !self.out));
-    }
-}
-
-/// From every sound page, fresh or not.
+/// The past of every sound page, fresh, raw or read, leads to what is there. From
+/// each origin editors leave, with a bucket and without.
 #[test]
-fn counts_are_arrivals_less_departures() {
+fn the_past_leads_to_what_is_there() {
+    let mut left = BTreeSet::new();
     let walks = (9..=12).flat_map(|seed| walks(&long(seed)));
     for walk in walks.filter(|walk| sound(&walk.start)) {
         let mut history = History::before(&walk.start);
         for asked in walk.asked {
             if let (Ok(request), Ok(withdrawn)) = (read_request(&asked.bytes), asked.answer) {
+                let departures = history.departures;
                 history.accepted(&request, withdrawn);
+                let departed = history.departures != departures;
+                left.insert((walk.origin, request.step, departed));
             }
             history.fits(&asked.after);
+        }
+    }
+    for origin in [1, 7, 8] {
+        for number in [17, 25, 29, 30] {
+            for departed in [false, true] {
+                let seen = (origin, number, departed);
+                assert!(left.contains(&seen), "{seen:?}");
+            }
         }
     }
 }

@@ -83,12 +83,12 @@ fn number_1_comes_first() {
     let mut page = fresh(0);
     page.storage = None;
     assert_eq!(refusal(&page, 19, 0, 0, 0), Err(Refusal::NotSound));
-    assert_eq!(refusal(&page, 25, 9, 9, 9), Err(Refusal::NotSound));
+    assert_eq!(refusal(&page, 31, 9, 9, 9), Err(Refusal::NotSound));
 }
 
 #[test]
 fn number_2() {
-    for number in [0, 25, 26, 128, 255] {
+    for number in (31..=255).chain([0]) {
         let answer = refusal(&fresh(0), number, 4, 2, 1);
         assert_eq!(answer, Err(Refusal::UnknownStep));
     }
@@ -97,9 +97,9 @@ fn number_2() {
 #[test]
 fn number_3() {
     let takes_bucket = [4, 13, 18, 19, 20, 21, 22, 23, 24];
-    let takes_value = [4, 9, 10, 16, 17, 22];
+    let takes_value = [4, 9, 10, 16, 17, 22, 29, 30];
     let bad = Err(Refusal::BadField);
-    for number in 1..=24 {
+    for number in 1..=30 {
         let fourth_bucket = refusal_or_not(number, 4, 0, 0);
         if takes_bucket.contains(&number) {
             assert_eq!(fourth_bucket, Err(Refusal::BadBucket));
@@ -155,6 +155,10 @@ fn number_6() {
     for number in [2, 5, 6, 7, 8, 9, 10, 13, 14, 15, 16, 17, 18, 20, 21, 22, 24] {
         assert_eq!(refusal(&fresh(0), number, 0, 0, 0), missing);
     }
+    for number in 25..=30 {
+        assert_eq!(refusal(&fresh(0), number, 0, 0, 0), missing);
+        assert_eq!(refusal(&loaded(), number, 0, 0, 0), missing);
+    }
     assert_eq!(refusal(&loaded(), 4, 0, 0, 7), missing);
     assert_eq!(refusal(&loaded(), 23, 0, 0, 0), missing);
     let reading = loaded_then(&[(19, 2, 0, 0), (23, 2, 0, 0), (24, 2, 0, 0)]);
@@ -185,6 +189,10 @@ fn number_7() {
     for loading in prefetches() {
         assert_eq!(refusal(&loading, 16, 0, 0, 1), bucket);
     }
+    let claimed = loaded_then(&[(3, 0, 0, 0)]);
+    assert_eq!(refusal(&claimed, 26, 0, 0, 0), bucket);
+    let beside_writeback = loaded_then(&[(1, 0, 0, 0), (3, 0, 0, 0)]);
+    assert_eq!(refusal(&beside_writeback, 26, 0, 0, 0), bucket);
 }
 
 #[test]
@@ -241,8 +249,15 @@ fn number_11() {
     assert_eq!(refusal(&loading, 16, 0, 0, 1), full);
     let editing = crowded(counted_editor(), [16; 4]);
     assert_eq!(refusal(&editing, 9, 0, 0, 1), full);
-    assert!(step(editing, &Request::new(10, 0, 0, 1)).answer.is_ok());
+    for number in [10, 29, 30] {
+        let request = Request::new(number, 0, 0, 1);
+        assert!(step(editing.clone(), &request).answer.is_ok());
+    }
     assert!(step(loading, &Request::new(17, 0, 0, 1)).answer.is_ok());
+    let claimed = step(counted_editor(), &Request::new(10, 0, 0, 1)).page;
+    let claimed = crowded(claimed, [16; 4]);
+    assert_eq!(refusal(&claimed, 26, 0, 0, 0), full);
+    assert!(step(claimed, &Request::new(25, 0, 0, 0)).answer.is_ok());
 }
 
 #[test]
@@ -259,7 +274,10 @@ fn the_lower_of_two_is_given() {
     for full_list in prefetches().map(|page| crowded(page, [16; 4])) {
         assert_eq!(refusal(&full_list, 16, 0, 0, 0), Err(Refusal::HolderBucket));
     }
+    let full_list = crowded(loaded_then(&[(3, 0, 0, 0)]), [16; 4]);
+    assert_eq!(refusal(&full_list, 26, 0, 0, 0), Err(Refusal::HolderBucket));
     let full_list = crowded(fresh(0), [31, 31, 2, 0]);
+    assert_eq!(refusal(&full_list, 26, 0, 0, 0), Err(Refusal::NoHolder));
     assert_eq!(refusal(&full_list, 16, 0, 0, 0), Err(Refusal::NoHolder));
     assert_eq!(refusal(&full_list, 19, 0, 0, 0), Err(Refusal::CountFull));
     assert_eq!(refusal(&full_list, 19, 2, 0, 0), Err(Refusal::ListFull));
@@ -327,7 +345,7 @@ fn checked(mut page: Page) -> Page {
 fn applies(number: u8, page: &Page, request: &Request) -> bool {
     let asked = request.step;
     match number {
-        2 => asked == 0 || asked > 24,
+        2 => asked == 0 || asked > 30,
         3 => unused_not_zero(request),
         4 => takes_bucket(asked) && request.bucket > 3,
         5 => !flags(asked).contains(&page.flag),
@@ -336,7 +354,7 @@ fn applies(number: u8, page: &Page, request: &Request) -> bool {
         8 => visited(page).is_some_and(|v| asked == 7 && v == 4 || asked == 8 && v != 4),
         9 => asked == 7 && other_count(page),
         10 => [13, 18, 19].contains(&asked) && count(page, request.bucket) == CEILING.0,
-        11 => [9, 16, 19].contains(&asked) && page.shared_state.listed().len() == CAPACITY,
+        11 => [9, 16, 19, 26].contains(&asked) && page.shared_state.listed().len() == CAPACITY,
         _ => false,
     }
 }
@@ -346,7 +364,7 @@ fn takes_bucket(asked: u8) -> bool {
 }
 
 fn unused_not_zero(request: &Request) -> bool {
-    let takes_value = [4, 9, 10, 16, 17, 22].contains(&request.step);
+    let takes_value = [4, 9, 10, 16, 17, 22, 29, 30].contains(&request.step);
     !takes_bucket(request.step) && request.bucket != 0
         || !takes_value && request.value != 0
         || request.step != 6 && request.clean != 0
@@ -390,10 +408,10 @@ fn holder(page: &Page, request: &Request) -> bool {
     match request.step {
         2 => page.writeback_state.is_some(),
         4 | 22 => lists(SharedState::Obtained { bucket, value }),
-        5 => matches!(page.exc_state, Some(ExcState::Claim { .. })),
-        6 => matches!(page.exc_state, Some(ExcState::PendingAwaitWriteback { .. })),
-        7 | 8 => matches!(page.exc_state, Some(ExcState::Pending { .. })),
-        9 | 10 | 18 => matches!(page.exc_state, Some(ExcState::Obtained { .. })),
+        5 | 25 | 26 => matches!(page.exc_state, Some(ExcState::Claim { .. })),
+        6 | 27 => matches!(page.exc_state, Some(ExcState::PendingAwaitWriteback { .. })),
+        7 | 8 | 28 => matches!(page.exc_state, Some(ExcState::Pending { .. })),
+        9 | 10 | 18 | 29 | 30 => matches!(page.exc_state, Some(ExcState::Obtained { .. })),
         13 | 15 => page.loading_state == Some(LoadingState::Pending),
         14 => matches!(
             page.loading_state,
@@ -408,7 +426,7 @@ fn holder(page: &Page, request: &Request) -> bool {
 
 fn wrong_bucket(page: &Page, asked: u8) -> bool {
     match asked {
-        9 | 10 => page.exc_state.and_then(ExcState::bucket).is_none(),
+        9 | 10 | 26 => page.exc_state.and_then(ExcState::bucket).is_none(),
         16 => page.loading_state.and_then(LoadingState::bucket).is_none(),
         18 => page.exc_state.and_then(ExcState::bucket).is_some(),
         _ => false,
@@ -471,7 +489,7 @@ fn every_request_on_many_records_gets_the_lowest_number() {
 
 fn all_small_requests(storage: Option<StoredType>) -> Vec<Request> {
     let mut all = Vec::new();
-    for number in 0..=25 {
+    for number in 0..=31 {
         for bucket in 0..=4 {
             for clean in 0..=2 {
                 for value in [0, 1, storage.unwrap_or(2)] {

@@ -92,7 +92,7 @@ fn lengths_of_runs() {
 
 #[test]
 fn each_line_has_its_answer_and_the_rest_stays() {
-    let bytes = requests(&[(12, 0), (25, 0), (12, 0), (19, 2), (19, 4), (20, 2), (1, 1)]);
+    let bytes = requests(&[(12, 0), (31, 0), (12, 0), (19, 2), (19, 4), (20, 2), (1, 1)]);
     let mut page = fresh(0x0908);
     let mut answers = vec![0xcc; bytes.len() + 3];
     assert_eq!(run(&mut page, &bytes, &mut answers), Ok(()));

@@ -45,9 +45,34 @@ fn refusals_that_depend_on_the_step() {
         "refused, 8: not all four buckets are visited yet"
     );
     assert_eq!(said(18, 7), "refused, 7: the holder has a bucket already");
-    for step in [9, 10, 16] {
+    for step in [9, 10, 16, 26] {
         assert_eq!(said(step, 7), "refused, 7: the holder has no bucket");
     }
+}
+
+/// The words for a request of this step, with a value where it takes one.
+fn asked(step: u8, value: u8) -> String {
+    let lines = side_by_side(&request(step, 0, value), &answer(0));
+    let words = lines[0].strip_suffix("  accepted").unwrap();
+    words.trim().to_string()
+}
+
+#[test]
+fn the_steps_that_give_back() {
+    assert_eq!(asked(25, 0), "1  25 discard_claim");
+    assert_eq!(asked(26, 0), "1  26 claim_to_shared");
+    assert_eq!(asked(27, 0), "1  27 pending_to_claim");
+    assert_eq!(asked(28, 0), "1  28 cancel_exc_lock_to_claim");
+    assert_eq!(asked(29, 0), "1  29 deposit_exc_lock_to_done, value 0");
+    assert_eq!(asked(30, 9), "1  30 deposit_exc_lock_to_unmapped, value 9");
+}
+
+#[test]
+fn a_number_without_a_step() {
+    assert_eq!(asked(0, 0), "1  0 no step");
+    assert_eq!(asked(31, 0), "1  31 no step");
+    assert_eq!(asked(255, 7), "1  255 no step, value 7");
+    assert_eq!(said(31, 2), "refused, 2: no such step");
 }
 
 #[test]

@@ -1,5 +1,7 @@
--- The worked cases, one computed test over their table, and the bytes of case A, one computed equation. Assumes nothing.
+-- The worked cases, one computed test over their table; the departures of two of them, and the bytes of case A, each a computed
+-- equation. Assumes nothing.
 use mathlib.Core.Path.{_≡_, refl}
+use mathlib.Core.List.{[], _∷_, _++_}
 use lib.Dec.{T}
 use lib.ListN.{replicate}
 use Rattle.readers.specs.Listed.{noReaders, pushed, putAt, removedAt}
@@ -13,12 +15,23 @@ use Rattle.wire.specs.Bytes.{lineWith}
 use Rattle.wire.specs.Requests.{readOf}
 use Rattle.replay.specs.Turns.{turnOf}
 use Rattle.replay.specs.Run.{runVerdict, ranOf, answersOf}
-use Rattle.demands.specs.Cases.{allHold, workedCases, requestsA, answersA}
+use Rattle.demands.specs.Cases.{allHold, workedCases, caseB, caseK, caseL, departs, requestsA, answersA}
 
--- cases A to H
+-- cases A to H and K to M
 pub worked : T (allHold workedCases)
 unfolding stepOf lookFor editedIn judged decideOf soughtOf soundOf lowestBroken noReaders pushed putAt removedAt freshPage
 worked = tt
+
+-- in K the first 17 leaves bucket 2. No 13 was accepted since the 12, so the second 17 leaves none; and the 30 is by an editor that has
+-- none
+pub departs-k : departs caseK ≡ 0 ∷ 0 ∷ 1 ∷ 0 ∷ []
+unfolding stepOf lookFor editedIn judged decideOf soughtOf soundOf lowestBroken noReaders pushed putAt removedAt freshPage
+departs-k = refl
+
+-- in L the first 25 leaves bucket 1, which the 4 named. A 3 was accepted since, so the second leaves none. The 17 of B leaves bucket 2
+pub departs-l : departs (caseB ++ caseL) ≡ 0 ∷ 1 ∷ 1 ∷ 0 ∷ []
+unfolding stepOf lookFor editedIn judged decideOf soughtOf soundOf lowestBroken noReaders pushed putAt removedAt freshPage
+departs-l = refl
 
 -- the answer lines of case A, with no byte more
 pub worked-bytes : answersOf (freshPage 0) requestsA (replicate 32 9) ≡ answersA

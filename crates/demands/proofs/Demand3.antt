@@ -101,10 +101,13 @@ demand3-from p sound qs =
     (tells (startOf p) p [] qs sound (start-told p)) (history-hands p qs [] tt)
 
 -- ---- from a fresh page
--- nothing has come, this value was put in, the page is in, and nobody loads
-pub fresh-start : (v : ℕ) → startOf (freshPage v) ≡ record { counts = λ b. 0; value = v; out = false; loader = MaybeBucket.None }
+-- nothing has come, this value was put in, the page is in, and nobody loads or edits
+pub fresh-start : (v : ℕ)
+    → startOf (freshPage v)
+    ≡ record { counts = λ b. 0; value = v; out = false; loader = MaybeBucket.None; editor = MaybeBucket.None }
 unfolding freshPage
-fresh-start v = λ i. record { counts = λ b. none b i; value = v; out = false; loader = MaybeBucket.None }
+fresh-start v =
+    λ i. record { counts = λ b. none b i; value = v; out = false; loader = MaybeBucket.None; editor = MaybeBucket.None }
   where
     none : (b : ℕ) → numberAt (replicate buckets (record { 0 = 0 })) b ≡ 0
     none zero = refl

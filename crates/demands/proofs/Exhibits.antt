@@ -1,22 +1,36 @@
--- The exhibits and the flag premises, each one computed test over its whole table. Assumes nothing.
-use mathlib.Core.Path.{_≡_, refl}
+-- The exhibits and the flag premises, each one computed test over its whole table; and that 25 to 30 give no number but those that are
+-- exhibited (`returns-answer`). Assumes nothing.
+use Prim.Native.Nat.{ℕ, _+_, _-_, _≤_}
+use mathlib.Core.Path.{_≡_, refl, subst}
+use mathlib.Core.Bool.{Bool, true, false, not, _&&_}
 use mathlib.Core.List.{[], _∷_}
+use native.Mathlib.Omega.{arith}
 use lib.Dec.{T}
-use Rattle.laws.specs.Lists.{every}
+use Rattle.laws.specs.Lists.{every, among}
+use Rattle.laws.specs.Tables.{firstApplying}
+use Rattle.laws.proofs.Pick.{Below, _&_, pick}
+use Rattle.kinds.specs.declared.{Bucket.Bucket, ExcState.ExcState}
 use Rattle.kinds.specs.Numbers.{flagFrom, storageFrom, bucketFrom, phaseFrom, excFrom, loadingFrom, writebackFrom}
 use Rattle.readers.specs.Listed.{noReaders, pushed, putAt, removedAt}
+use Rattle.page_record.specs.declared.Page.{Page}
+use Rattle.page_record.specs.Holders.{isClaim, isAwait, isPending, isEditing}
 use Rattle.page_record.specs.Pages.{freshPage}
 use Rattle.soundness.specs.Soundness.{soundOf, lowestBroken}
-use Rattle.requests.specs.Requests.{judged}
+use Rattle.requests.specs.declared.Request.{Request}
+use Rattle.requests.specs.Answers.{answerNumber}
+use Rattle.requests.specs.Requests.{lastStep, judged}
+use Rattle.requests.specs.Applies.{applies3}
 use Rattle.steps.specs.Decide.{decideOf, soughtOf}
 use Rattle.lock.specs.Step.{stepOf, lookFor, editedIn}
+use Rattle.lock.specs.Applies.{applies1, applies11, bucketWrong, applying}
+use Rattle.lock.proofs.Least.{least-number}
 use Rattle.wire.specs.Bytes.{lineWith}
 use Rattle.image.specs.Images.{kindBytes, countBytes, valueBytes, entries, imageOf}
 use Rattle.image.specs.Decoding.{u64At, excFromBytes, headFrom, readerFrom, readersFrom, pageFrom}
 use Rattle.image.specs.Keeping.{isImage, readVerdict, restoredFrom}
 use Rattle.replay.specs.Run.{runVerdict}
 use Rattle.demands.specs.Exhibits.{exhibited, flags, shown, holders, everyStepTaken, breakEach, brokenPages}
-use Rattle.demands.specs.Exhibits.{answered, trials, wholeNumbers, refusesRightly, premises, resumes, resumed}
+use Rattle.demands.specs.Exhibits.{answered, trials, mayAnswer, everyReturnShown, wholeNumbers, refusesRightly, premises, resumes, resumed}
 
 -- a sound record for each of the eleven flags
 pub flags-exhibited : T (every exhibited flags)
@@ -28,7 +42,7 @@ pub holders-exhibited : T (every shown holders)
 unfolding stepOf lookFor editedIn judged decideOf soughtOf soundOf lowestBroken noReaders pushed putAt removedAt freshPage
 holders-exhibited = tt
 
--- each of the 24 steps is accepted somewhere
+-- each of the 30 steps is accepted somewhere
 pub steps-exhibited : T everyStepTaken
 unfolding stepOf lookFor editedIn judged decideOf soughtOf soundOf lowestBroken noReaders pushed putAt removedAt freshPage
 steps-exhibited = tt
@@ -47,6 +61,65 @@ numbers-exhibited = tt
 pub runs-exhibited : wholeNumbers ≡ 12 ∷ 13 ∷ 14 ∷ 0 ∷ 0 ∷ 0 ∷ []
 unfolding runVerdict soundOf lowestBroken noReaders freshPage
 runs-exhibited = refl
+
+-- 25 to 30: each is accepted, and gives each number that it can
+pub returns-exhibited : T everyReturnShown
+unfolding stepOf lookFor editedIn judged decideOf soughtOf soundOf lowestBroken noReaders pushed putAt removedAt freshPage
+returns-exhibited = tt
+
+-- .. and no other: of the table of numbers, by whether the page is unsound, a field is wrong, the holder is there, its bucket is wrong
+-- and the list is full
+by-holder : (unsound field holder : Bool)
+    → T (among (mayAnswer 25)
+    (firstApplying
+    ((1, unsound) ∷ (2, false) ∷ (3, field) ∷ (4, false) ∷ (5, false) ∷ (6, not holder) ∷ (7, holder && false)
+    ∷ (8, holder && false) ∷ (9, holder && false) ∷ (10, false) ∷ (11, false) ∷ [])))
+by-holder true field holder = tt
+by-holder false true holder = tt
+by-holder false false true = tt
+by-holder false false false = tt
+
+by-bucket : (unsound field holder bucket full : Bool)
+    → T (among (mayAnswer 26)
+    (firstApplying
+    ((1, unsound) ∷ (2, false) ∷ (3, field) ∷ (4, false) ∷ (5, false) ∷ (6, not holder) ∷ (7, holder && bucket)
+    ∷ (8, holder && false) ∷ (9, holder && false) ∷ (10, false) ∷ (11, full) ∷ [])))
+by-bucket true field holder bucket full = tt
+by-bucket false true holder bucket full = tt
+by-bucket false false false bucket full = tt
+by-bucket false false true true full = tt
+by-bucket false false true false true = tt
+by-bucket false false true false false = tt
+
+module _ (p : Page) (b : Bucket) (clean value : ℕ) where
+  abbrev asked : ℕ → Request
+  asked n = record { step = n; bucket = b; clean = clean; value = value }
+
+  abbrev Answers : ℕ → Type 0
+  Answers n = T (among (mayAnswer n) (firstApplying (applying p (asked n))))
+
+  abbrev exc : ExcState
+  exc = p .«exc_state»
+
+  answers : Below 6 (λ k. Answers (25 + k))
+  answers =
+      by-holder (applies1 p) (applies3 (asked 25)) (isClaim exc)
+      & by-bucket (applies1 p) (applies3 (asked 26)) (isClaim exc) (bucketWrong p 26) (applies11 p (asked 26))
+      & by-holder (applies1 p) (applies3 (asked 27)) (isAwait exc)
+      & by-holder (applies1 p) (applies3 (asked 28)) (isPending exc)
+      & by-holder (applies1 p) (applies3 (asked 29)) (isEditing exc)
+      & by-holder (applies1 p) (applies3 (asked 30)) (isEditing exc)
+      & tt
+
+pub returns-answer : (p : Page) (q : Request) → 25 ≤ q .step → q .step ≤ lastStep
+    → T (among (mayAnswer (q .step)) (answerNumber (stepOf p q .answer)))
+returns-answer p q low high =
+    let k = q .step - 25 in
+    let is : 25 + k ≡ q .step = omega arith in
+    rw (least-number p q)
+    (subst (Answers p (q .bucket) (q .clean) (q .value)) is
+    (pick 6 (λ (k : ℕ). Answers p (q .bucket) (q .clean) (q .value) (25 + k))
+    (answers p (q .bucket) (q .clean) (q .value)) k (omega arith)))
 
 -- each flag premise refuses under just the flags that RULES 3.2 shuts out
 pub flags-refused : T (every refusesRightly premises)

@@ -23,6 +23,8 @@ use Rattle.kinds.proofs.lock_flag.Reads as lock-flag-contract
 use Rattle.kinds.proofs.not_loading.Reads as not-loading-contract
 use Rattle.kinds.proofs.open_to_readers.Reads as open-to-readers-contract
 use Rattle.kinds.proofs.released.Reads as released-contract
+use Rattle.kinds.proofs.unawaited.Reads as unawaited-contract
+use Rattle.kinds.proofs.unclaimed.Reads as unclaimed-contract
 use Rattle.kinds.proofs.writeback_done.Reads as writeback-done-contract
 use Rattle.kinds.proofs.bucket_from.Reads as bucket-from-contract
 use Rattle.kinds.proofs.bucket_number.Reads as bucket-number-contract
@@ -121,6 +123,12 @@ use Rattle.reading.proofs.shared_check_exc.Reads as shared-check-exc-contract
 use Rattle.reading.proofs.shared_check_loading.Reads as shared-check-loading-contract
 use Rattle.reading.proofs.shared_dec_count.Reads as shared-dec-count-contract
 use Rattle.reading.proofs.shared_inc_count.Reads as shared-inc-count-contract
+use Rattle.returning.proofs.claim_to_shared.Reads as claim-to-shared-contract
+use Rattle.returning.proofs.discard_claim.Reads as discard-claim-contract
+use Rattle.returning.proofs.pending_to_claim.Reads as pending-to-claim-contract
+use Rattle.returning.proofs.cancel_exc_lock_to_claim.Reads as cancel-exc-lock-to-claim-contract
+use Rattle.returning.proofs.deposit_exc_lock_to_done.Reads as deposit-exc-lock-to-done-contract
+use Rattle.returning.proofs.deposit_exc_lock_to_unmapped.Reads as deposit-exc-lock-to-unmapped-contract
 use Rattle.steps.proofs.sought_by.Reads as sought-by-contract
 use Rattle.steps.proofs.decide.Reads as decide-contract
 use Rattle.lock.specs.Step.{stepOf}
@@ -197,6 +205,12 @@ open-to-readers = equation _
 
 pub released : AtMostOne released-contract.Post
 released = equation _
+
+pub unawaited : AtMostOne unawaited-contract.Post
+unawaited = equation _
+
+pub unclaimed : AtMostOne unclaimed-contract.Post
+unclaimed = equation _
 
 pub writeback-done : AtMostOne writeback-done-contract.Post
 writeback-done = equation _
@@ -494,6 +508,25 @@ shared-dec-count = equation _
 
 pub shared-inc-count : AtMostOne shared-inc-count-contract.Post
 shared-inc-count = equation _
+
+-- ---- returning
+pub claim-to-shared : AtMostOne claim-to-shared-contract.Post
+claim-to-shared = equation _
+
+pub discard-claim : AtMostOne discard-claim-contract.Post
+discard-claim = equation _
+
+pub pending-to-claim : AtMostOne pending-to-claim-contract.Post
+pending-to-claim = equation _
+
+pub cancel-exc-lock-to-claim : AtMostOne cancel-exc-lock-to-claim-contract.Post
+cancel-exc-lock-to-claim = equation _
+
+pub deposit-exc-lock-to-done : AtMostOne deposit-exc-lock-to-done-contract.Post
+deposit-exc-lock-to-done = equation _
+
+pub deposit-exc-lock-to-unmapped : AtMostOne deposit-exc-lock-to-unmapped-contract.Post
+deposit-exc-lock-to-unmapped = equation _
 
 -- ---- steps
 pub sought-by : AtMostOne sought-by-contract.Post

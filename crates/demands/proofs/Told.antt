@@ -1,6 +1,6 @@
--- What the history tells of a page, step by step: counts, storage, the loader and its bucket, and the values handed out. Each step
--- keeps it (one entry for each number), a refusal changes neither page nor history's sums, so it holds after any requests.
--- Assumes nothing.
+-- What the history tells of a page, step by step: counts, storage, the loader and its bucket, the exclusive holder's bucket, and the
+-- values handed out. Each step keeps it (one entry for each number), a refusal changes neither page nor history's sums, so it holds
+-- after any requests. Assumes nothing.
 use Prim.Native.Nat.{ℕ, _+_, _≤_, _<_}
 use mathlib.Core.Path.{_≡_, refl, sym, _∙_}
 use mathlib.Core.Bool.{Bool, true, false, not, cond, _&&_}
@@ -13,16 +13,17 @@ use Rattle.laws.specs.Lists.{among}
 use Rattle.laws.proofs.Tests.{to-true, to-false, and-iff}
 use Rattle.laws.proofs.Pick.{Below, _&_, pick}
 use Rattle.kinds.specs.declared.{Bucket.Bucket, Count.Count, Storage.Storage, MaybeBucket.MaybeBucket, Reader.Reader}
-use Rattle.kinds.specs.declared.{Phase.Phase, LoadingState.LoadingState}
+use Rattle.kinds.specs.declared.{Phase.Phase, ExcState.ExcState, LoadingState.LoadingState}
 use Rattle.kinds.specs.Limits.{buckets, capacity}
 use Rattle.readers.specs.declared.Found.{Found}
 use Rattle.readers.specs.Listed.{live, findIn}
 use Rattle.readers.proofs.First.{found}
 use Rattle.page_record.specs.declared.{Head.Head, Page.Page}
-use Rattle.page_record.specs.Holders.{isStored, hasBucket, validBucket, noLoad, loadingBucket, valueOf, excValue}
+use Rattle.page_record.specs.Holders.{isStored, hasBucket, validBucket, noExc, isClaim, isAwait, isPending, isEditing, excBucket}
+use Rattle.page_record.specs.Holders.{noLoad, loadingBucket, valueOf, excValue}
 use Rattle.page_record.specs.Pages.{numberAt, headOf}
 use Rattle.page_record.specs.References.{refAt}
-use Rattle.page_record.proofs.Inversions.{is-waiting, is-counted, is-loading}
+use Rattle.page_record.proofs.Inversions.{is-claim, is-await, is-pending, is-editing, is-waiting, is-counted, is-loading}
 use Rattle.soundness.specs.Soundness.{soundOf}
 use Rattle.soundness.proofs.Facts.{Sound}
 use Rattle.soundness.proofs.Tested.{facts}
@@ -36,26 +37,27 @@ use Rattle.requests.proofs.Formed.{judged-bucket, step-below}
 use Rattle.heads.specs.Setters.{raise, lower, lowerIf}
 use Rattle.heads.specs.Decisions.{Step, settled, isFound, reader}
 use Rattle.steps.specs.Decide.{stepAt, soughtOf, decideOf}
-use Rattle.lock.specs.Words.{raising, leaving, puttingIn, handingOut, fetching}
+use Rattle.lock.specs.Words.{raising, leaving, givingBack, puttingIn, handingOut, fetching}
 use Rattle.lock.specs.Step.{lookFor, stepped, stepOf}
 use Rattle.lock.proofs.Keeps.Counts.{number-raise, number-lower}
-use Rattle.lock.proofs.Exact.Granted.{granted}
+use Rattle.lock.proofs.Exact.Granted.{granted, exc-within}
 use Rattle.lock.proofs.Keeps.{step-keeps}
 use Rattle.demands.specs.History.{Event, Start, startOf, event, after, history, arrivals, departures, lastPut}
-use Rattle.demands.specs.History.{lastWithdrew, lastCounted, countedSince, HandedOut}
+use Rattle.demands.specs.History.{lastWithdrew, lastCounted, countedSince, editorNamed, HandedOut}
 
 -- ---- what is told
 -- of the counts, of storage and of the loader: where it has a bucket, the latest 13 named it, and since the latest 11 or 12; where it
--- has none, there was no 13 since
-pub record Told (start : Start) (cs : List Count) (s : Storage) (l : LoadingState) (past : List Event) : Type 0 where
+-- has none, there was no 13 since. And of the exclusive holder, where there is one: its bucket, or that it has none
+pub record Told (start : Start) (cs : List Count) (s : Storage) (e : ExcState) (l : LoadingState) (past : List Event) : Type 0 where
   pub balance : (b : ℕ) → numberAt cs b + departures start b past ≡ start .counts b + arrivals b past
   pub stored : s ≡ cond (lastWithdrew start past) Storage.Out (Storage.In (lastPut start past))
   pub counted : T (hasBucket (loadingBucket l)) → lastCounted start past ≡ loadingBucket l
   pub since : T (not (noLoad l)) → countedSince start past ≡ hasBucket (loadingBucket l)
+  pub edited : T (not (noExc e)) → editorNamed start past ≡ excBucket e
   pub handed : HandedOut start past
 
 abbrev pub ToldOf : Start → Head → List Event → Type 0
-ToldOf start h past = Told start (h .«ref_counts») (h .storage) (h .«loading_state») past
+ToldOf start h past = Told start (h .«ref_counts») (h .storage) (h .«exc_state») (h .«loading_state») past
 
 -- what is stored was last put in
 pub put-in : (start : Start) (s : Storage) (past : List Event)
@@ -70,11 +72,15 @@ put-in start s past told v e = go (lastWithdrew start past) (sym e ∙ told)
 -- ---- each step
 -- a number that is no arrival and no departure
 abbrev even : ℕ → Bool
-even n = not (among raising n) && not (among leaving n) && not (among (17 ∷ []) n)
+even n = not (among raising n) && not (among leaving n) && not (among (17 ∷ []) n) && not (among givingBack n)
 
 -- one that none of the words on storage and on the loader names
 abbrev calm : ℕ → Bool
 calm n = not (among (13 ∷ []) n) && not (among puttingIn n) && not (among handingOut n) && not (among fetching n)
+
+-- one that of these words the one on what is put in names alone
+abbrev putsOnly : ℕ → Bool
+putsOnly n = among puttingIn n && not (among (13 ∷ []) n) && not (among handingOut n) && not (among fetching n)
 
 module _ (start : Start) (h : Head) (l : List Reader) (b : Bucket) (clean value : ℕ) (full : Bool) (past : List Event)
     (s : Sound h l) (inside : b .0 < buckets) (told : ToldOf start h past) where
@@ -117,17 +123,18 @@ module _ (start : Start) (h : Head) (l : List Reader) (b : Bucket) (clean value 
   was-put = put-in start (h .storage) past (told .stored)
 
   -- no count changes, nothing is handed out
-  same : (x : ℕ) → numberAt (h .«ref_counts») x + (0 + 0 + departures start x past) ≡ start .counts x + (0 + arrivals x past)
+  same : (x : ℕ) → numberAt (h .«ref_counts») x + (0 + 0 + 0 + departures start x past) ≡ start .counts x + (0 + arrivals x past)
   same x = omega (arith, told .balance x)
 
   none-out : {A : Type 0} → (⊥ → A) × HandedOut start past
   none-out = (λ t. absurd t, told .handed)
 
-  -- a step that leaves storage and the loader: only its counts are told anew
-  recounts : (n : ℕ) (cs : List Count) → T (calm n)
+  -- a step that leaves storage and the loader: only its counts and the exclusive holder are told anew
+  recounts : (n : ℕ) {cs : List Count} {e : ExcState} → T (calm n)
       → ((x : ℕ) → numberAt cs x + departures start x (took n) ≡ start .counts x + arrivals x (took n))
-      → Told start cs (h .storage) (h .«loading_state») (took n)
-  recounts n cs t balance =
+      → (T (not (noExc e)) → editorNamed start (took n) ≡ excBucket e)
+      → Told start cs (h .storage) e (h .«loading_state») (took n)
+  recounts n t balance edited =
       let u = simp and-iff at t in
       let counts = to-false (among (13 ∷ []) n) (u .0 .0 .0) in
       let puts = to-false (among puttingIn n) (u .0 .0 .1) in
@@ -138,17 +145,59 @@ module _ (start : Start) (h : Head) (l : List Reader) (b : Bucket) (clean value 
         stored = rw (takes, puts) (told .stored);
         counted = λ w. rw counts (told .counted w);
         since = λ w. rw (counts, fetches) (told .since w);
+        edited = edited;
         handed = none-out;
       }
 
   -- .. and one that leaves the counts too
-  stays : (n : ℕ) → T (even n) → T (calm n) → ToldOf start h (took n)
+  stays : (n : ℕ) {e : ExcState} → T (even n) → T (calm n) → (T (not (noExc e)) → editorNamed start (took n) ≡ excBucket e)
+      → Told start (h .«ref_counts») (h .storage) e (h .«loading_state») (took n)
   stays n t =
       let u = simp and-iff at t in
-      let raises = to-false (among raising n) (u .0 .0) in
-      let leaves = to-false (among leaving n) (u .0 .1) in
-      let done = to-false (among (17 ∷ []) n) (u .1) in
-      λ w. recounts n (h .«ref_counts») w λ x. rw (raises, leaves, done) (same x)
+      let raises = to-false (among raising n) (u .0 .0 .0) in
+      let leaves = to-false (among leaving n) (u .0 .0 .1) in
+      let done = to-false (among (17 ∷ []) n) (u .0 .1) in
+      let gives = to-false (among givingBack n) (u .1) in
+      λ w. recounts n w λ x. rw (raises, leaves, done, gives) (same x)
+
+  -- a step that puts the value in, and leaves the loader
+  puts : (n : ℕ) {cs : List Count} {e : ExcState} → T (putsOnly n)
+      → ((x : ℕ) → numberAt cs x + departures start x (took n) ≡ start .counts x + arrivals x (took n))
+      → (T (not (noExc e)) → editorNamed start (took n) ≡ excBucket e)
+      → Told start cs (Storage.In value) e (h .«loading_state») (took n)
+  puts n t balance edited =
+      let u = simp and-iff at t in
+      let puts = to-true (among puttingIn n) (u .0 .0 .0) in
+      let counts = to-false (among (13 ∷ []) n) (u .0 .0 .1) in
+      let takes = to-false (among handingOut n) (u .0 .1) in
+      let fetches = to-false (among fetching n) (u .1) in
+      record {
+        balance = balance;
+        stored = rw (takes, puts);
+        counted = λ w. rw counts (told .counted w);
+        since = λ w. rw (counts, fetches) (told .since w);
+        edited = edited;
+        handed = none-out;
+      }
+
+  -- the exclusive holder, by its kind: its bucket is the one that was named
+  abbrev exc : ExcState
+  exc = h .«exc_state»
+
+  abbrev Named : Type 0
+  Named = editorNamed start past ≡ excBucket exc
+
+  claims : T (isClaim exc) → Named
+  claims t = told .edited (rw (is-claim exc t) tt)
+
+  awaits : T (isAwait exc) → Named
+  awaits t = told .edited (rw (is-await exc t) tt)
+
+  locks : T (isPending exc) → Named
+  locks t = told .edited (rw (is-pending exc t) tt)
+
+  edits : T (isEditing exc) → Named
+  edits t = told .edited (rw (is-editing exc t) tt)
 
   told8 : Entry 8
   told8 t = record {
@@ -156,14 +205,9 @@ module _ (start : Start) (h : Head) (l : List Reader) (b : Bucket) (clean value 
     stored = refl;
     counted = told .counted;
     since = told .since;
+    edited = λ w. locks (t .0);
     handed = (λ w. was-put (excValue (h .«exc_state»)) (known s .pending-in (t .0)), told .handed);
   }
-
-  told9 : Entry 9
-  told9 t = record { balance = same; stored = refl; counted = told .counted; since = told .since; handed = none-out }
-
-  told10 : Entry 10
-  told10 t = record { balance = same; stored = refl; counted = told .counted; since = told .since; handed = none-out }
 
   told11 : Entry 11
   told11 t = record {
@@ -171,6 +215,7 @@ module _ (start : Start) (h : Head) (l : List Reader) (b : Bucket) (clean value 
     stored = refl;
     counted = λ w. absurd w;
     since = λ w. refl;
+    edited = told .edited;
     handed = (λ w. was-put (valueOf (h .storage)) (known s .unmapped-in (t .0)), told .handed);
   }
 
@@ -180,6 +225,7 @@ module _ (start : Start) (h : Head) (l : List Reader) (b : Bucket) (clean value 
     stored = refl;
     counted = λ w. absurd w;
     since = λ w. refl;
+    edited = told .edited;
     handed = (λ w. was-put (valueOf (h .storage)) (known s .unmapped-in (t .0)), told .handed);
   }
 
@@ -189,6 +235,7 @@ module _ (start : Start) (h : Head) (l : List Reader) (b : Bucket) (clean value 
     stored = told .stored;
     counted = λ w. refl;
     since = λ w. refl;
+    edited = told .edited;
     handed = none-out;
   }
 
@@ -198,6 +245,7 @@ module _ (start : Start) (h : Head) (l : List Reader) (b : Bucket) (clean value 
     stored = told .stored;
     counted = told .counted;
     since = λ w. told .since (rw (is-counted (h .«loading_state») (t .0)) tt);
+    edited = told .edited;
     handed = none-out;
   }
 
@@ -209,23 +257,42 @@ module _ (start : Start) (h : Head) (l : List Reader) (b : Bucket) (clean value 
         stored = told .stored;
         counted = λ w. absurd w;
         since = λ w. rw waits at (told .since (rw waits tt));
+        edited = told .edited;
         handed = none-out;
       }
 
   told16 : Entry 16
-  told16 t = record { balance = same; stored = refl; counted = λ w. absurd w; since = λ w. absurd w; handed = none-out }
+  told16 t = record {
+    balance = same;
+    stored = refl;
+    counted = λ w. absurd w;
+    since = λ w. absurd w;
+    edited = told .edited;
+    handed = none-out;
+  }
 
-  -- the loader's bucket, if it has one, is the one that the latest 13 named, and it is counted there
-  left-balance : (m : MaybeBucket) → loadingBucket (h .«loading_state») ≡ m → (T (hasBucket m) → lastCounted start past ≡ m)
-      → T (validBucket m) → (x : ℕ)
-      → numberAt (lowerIf m (h .«ref_counts»)) x + (cond (hasBucket m) (refAt (lastCounted start past) x) 0 + departures start x past) ≡ start .counts x + arrivals x past
-  left-balance MaybeBucket.None e named v x = omega (arith, told .balance x)
-  left-balance (MaybeBucket.At a) e named v x =
+  -- a holder leaves its bucket, if it has one: it is counted there
+  left-balance : (m : MaybeBucket) → T (validBucket m) → ((b : ℕ) → b < buckets → refAt m b ≤ numberAt (h .«ref_counts») b)
+      → (x : ℕ)
+      → numberAt (lowerIf m (h .«ref_counts»)) x + (refAt m x + departures start x past) ≡ start .counts x + arrivals x past
+  left-balance MaybeBucket.None v refs x = omega (arith, told .balance x)
+  left-balance (MaybeBucket.At a) v refs x =
       let inside : a .0 < buckets = ltb→lt (a .0) buckets v in
       let j : a .0 < length (h .«ref_counts») = omega (arith, s .four) in
-      let here : refAt (loadingBucket (h .«loading_state»)) (a .0) ≡ 1 = rw e (simp (eq-eqb (a .0) (a .0) refl)) in
-      let some : 1 ≤ numberAt (h .«ref_counts») (a .0) = omega (arith, s .counts (a .0) inside) in
-      rw (named tt) (omega (arith, number-lower (h .«ref_counts») (a .0) x j some, told .balance x))
+      let here : refAt (MaybeBucket.At a) (a .0) ≡ 1 = simp (eq-eqb (a .0) (a .0) refl) in
+      let some : 1 ≤ numberAt (h .«ref_counts») (a .0) = omega (arith, refs (a .0) inside) in
+      omega (arith, number-lower (h .«ref_counts») (a .0) x j some, told .balance x)
+
+  -- the loader's, if it has one, is the one that the latest 13 named
+  loader-named : (m n : MaybeBucket) (x : ℕ) → (T (hasBucket m) → n ≡ m) → cond (hasBucket m) (refAt n x) 0 ≡ refAt m x
+  loader-named MaybeBucket.None n x named = refl
+  loader-named (MaybeBucket.At a) n x named = rw (named tt)
+
+  -- the exclusive holder's is the editor's of the history
+  exc-left : Named → (x : ℕ)
+      → numberAt (lowerIf (excBucket exc) (h .«ref_counts»)) x + (0 + 0 + refAt (editorNamed start past) x + departures start x past) ≡ start .counts x + (0 + arrivals x past)
+  exc-left e x =
+      rw e (omega (arith, left-balance (excBucket exc) (exc-within s) (λ b k. omega (arith, s .counts b k)) x))
 
   told17 : Entry 17
   told17 t =
@@ -233,38 +300,57 @@ module _ (start : Start) (h : Head) (l : List Reader) (b : Bucket) (clean value 
       let v = granted h (s .head) .loading (t .0) .1 in
       let there : T (not (noLoad (h .«loading_state»))) = rw (is-loading (h .«loading_state») (t .0)) tt in
       record {
-        balance = λ x. rw (told .since there) (omega (arith, left-balance m refl (told .counted) v x));
+        balance = λ x.
+            rw (told .since there, loader-named m (lastCounted start past) x (told .counted))
+            (omega (arith, left-balance m v (λ b k. omega (arith, s .counts b k)) x));
         stored = refl;
         counted = λ w. absurd w;
         since = λ w. absurd w;
+        edited = told .edited;
         handed = none-out;
       }
 
   told18 : Entry 18
-  told18 t = recounts 18 _ tt λ x. omega (arith, raised-balance x)
+  told18 t = recounts 18 tt (λ x. omega (arith, raised-balance x)) λ w. refl
 
   told19 : Entry 19
-  told19 t = recounts 19 _ tt λ x. omega (arith, raised-balance x)
+  told19 t = recounts 19 tt (λ x. omega (arith, raised-balance x)) (told .edited)
 
   told20 : Entry 20
   unfolding lookFor soughtOf
-  told20 t = recounts 20 _ tt λ x. omega (arith, lowered-balance (found-counted Phase.Pending (t .0)) x)
+  told20 t = recounts 20 tt (λ x. omega (arith, lowered-balance (found-counted Phase.Pending (t .0)) x)) (told .edited)
 
   told21 : Entry 21
   unfolding lookFor soughtOf
-  told21 t = recounts 21 _ tt λ x. omega (arith, lowered-balance (found-counted Phase.Pending2 (t .0)) x)
+  told21 t = recounts 21 tt (λ x. omega (arith, lowered-balance (found-counted Phase.Pending2 (t .0)) x)) (told .edited)
 
   told22 : Entry 22
   unfolding lookFor soughtOf
-  told22 t = recounts 22 _ tt λ x. omega (arith, lowered-balance (found-counted (Phase.Obtained value) (t .0)) x)
+  told22 t = recounts 22 tt (λ x. omega (arith, lowered-balance (found-counted (Phase.Obtained value) (t .0)) x)) (told .edited)
 
   entries : Below pastLast Entry
   entries =
       (λ t. absurd (t .0))
-      & (λ t. stays 1 tt tt) & (λ t. stays 2 tt tt) & (λ t. stays 3 tt tt) & (λ t. stays 4 tt tt) & (λ t. stays 5 tt tt)
-      & (λ t. stays 6 tt tt) & (λ t. stays 7 tt tt) & told8
-      & told9 & told10 & told11 & told12 & told13 & told14 & told15 & told16
-      & told17 & told18 & told19 & told20 & told21 & told22 & (λ t. stays 23 tt tt) & (λ t. stays 24 tt tt)
+      & (λ t. stays 1 tt tt (told .edited))
+      & (λ t. stays 2 tt tt (told .edited))
+      & (λ t. stays 3 tt tt λ w. refl)
+      & (λ t. stays 4 tt tt λ w. refl)
+      & (λ t. stays 5 tt tt λ w. claims (t .0))
+      & (λ t. stays 6 tt tt λ w. awaits (t .1 .0))
+      & (λ t. stays 7 tt tt λ w. locks (t .0))
+      & told8
+      & (λ t. puts 9 tt same λ w. absurd w)
+      & (λ t. puts 10 tt same λ w. edits (t .0))
+      & told11 & told12 & told13 & told14 & told15 & told16
+      & told17 & told18 & told19 & told20 & told21 & told22
+      & (λ t. stays 23 tt tt (told .edited))
+      & (λ t. stays 24 tt tt (told .edited))
+      & (λ t. recounts 25 tt (exc-left (claims (t .0))) λ w. absurd w)
+      & (λ t. stays 26 tt tt λ w. absurd w)
+      & (λ t. stays 27 tt tt λ w. awaits (t .0))
+      & (λ t. stays 28 tt tt λ w. locks (t .0))
+      & (λ t. puts 29 tt (exc-left (edits (t .0))) λ w. absurd w)
+      & (λ t. puts 30 tt (exc-left (edits (t .0))) λ w. absurd w)
       & tt
 
 -- ---- one request
@@ -277,6 +363,7 @@ refused-tells start h past q why told =
       stored = rw (refusal-positive why) (told .stored);
       counted = λ t. rw (refusal-positive why) (told .counted t);
       since = λ t. rw (refusal-positive why) (told .since t);
+      edited = λ t. rw (refusal-positive why) (told .edited t);
       handed = (λ t. absurd t, told .handed);
     }
 
@@ -322,7 +409,14 @@ tells start p past (q ∷ qs) sound told =
 
 -- at the start nothing has happened
 pub start-told : (p : Page) → ToldOf (startOf p) (headOf p) []
-start-told p = record { balance = λ b. refl; stored = as-kept (p .storage); counted = λ t. refl; since = λ t. refl; handed = tt }
+start-told p = record {
+  balance = λ b. refl;
+  stored = as-kept (p .storage);
+  counted = λ t. refl;
+  since = λ t. refl;
+  edited = λ t. refl;
+  handed = tt;
+}
   where
     as-kept : (s : Storage) → s ≡ cond (not (isStored s)) Storage.Out (Storage.In (valueOf s))
     as-kept Storage.Out = refl

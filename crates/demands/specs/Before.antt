@@ -11,7 +11,8 @@ use Rattle.page_record.specs.declared.Page.{Page}
 use Rattle.page_record.specs.Holders.{valueOf}
 use Rattle.page_record.specs.Pages.{numberAt}
 use Rattle.requests.specs.declared.Answer.{Answer}
-use Rattle.demands.specs.History.{Event, Start, startOf, lastCounted, countedSince, departures, lastPut, lastWithdrew}
+use Rattle.demands.specs.History.{Event, Start, startOf, lastCounted, countedSince, editorNamed, departures, lastPut}
+use Rattle.demands.specs.History.{lastWithdrew}
 
 -- an accepted request
 abbrev pub granted : ℕ → Bucket → Event
@@ -42,14 +43,21 @@ editorCame (ExcState.Obtained bucket clean) = plainly 8 ∷ named 4 bucket
 abbrev pub before : Page → List Event
 before p = loaderCame (p .«loading_state») ++ editorCame (p .«exc_state»)
 
--- a start before all this: the page's counts and its value, nobody loads, and the page is in
+-- a start before all this: the page's counts and its value, nobody loads or edits, and the page is in
 abbrev pub bareStart : Page → Start
-bareStart p = record { counts = numberAt (p .«ref_counts»); value = valueOf (p .storage); out = false; loader = MaybeBucket.None }
+bareStart p = record {
+  counts = numberAt (p .«ref_counts»);
+  value = valueOf (p .storage);
+  out = false;
+  loader = MaybeBucket.None;
+  editor = MaybeBucket.None;
+}
 
 -- each word of a history from this page is as if what came before stood at its end
 pub record AsIf (p : Page) (past : List Event) : Type 0 where
   pub named-last : lastCounted (startOf p) past ≡ lastCounted (bareStart p) (past ++ before p)
   pub named-since : countedSince (startOf p) past ≡ countedSince (bareStart p) (past ++ before p)
+  pub named-editor : editorNamed (startOf p) past ≡ editorNamed (bareStart p) (past ++ before p)
   pub departed : (b : ℕ) → departures (startOf p) b past ≡ departures (bareStart p) b (past ++ before p)
   pub put : lastPut (startOf p) past ≡ lastPut (bareStart p) (past ++ before p)
   pub withdrew : lastWithdrew (startOf p) past ≡ lastWithdrew (bareStart p) (past ++ before p)

@@ -1,8 +1,8 @@
--- The worked cases A to H of RULES 10 as one table: what each request is answered, and what is said of the record then; and case A as
--- the bytes of a run.
+-- The worked cases A to H and K to M of RULES 10 as one table: what each request is answered, and what is said of the record then; the
+-- departures of K and L; and case A as the bytes of a run.
 use Prim.Native.Nat.{ℕ, _+_}
 use mathlib.Core.Bool.{Bool, true, false, not, _&&_, Bool·beq}
-use mathlib.Core.List.{List, [], _∷_, _++_}
+use mathlib.Core.List.{List, [], _∷_, _++_, map}
 use lib.Dec.{eqb}
 use lib.ListN.{replicate}
 use Rattle.laws.specs.Lists.{every}
@@ -13,10 +13,12 @@ use Rattle.readers.specs.Listed.{live}
 use Rattle.page_record.specs.declared.Page.{Page}
 use Rattle.page_record.specs.Holders.{isStored, holds}
 use Rattle.page_record.specs.Pages.{numberAt, freshPage}
+use Rattle.rules.specs.Rules.{everyBucket}
 use Rattle.soundness.specs.Soundness.{soundOf}
 use Rattle.requests.specs.declared.{Request.Request, Answer.Answer, Refusal.Refusal}
 use Rattle.requests.specs.Answers.{answerNumber, withdraws, answerValue}
 use Rattle.lock.specs.Step.{stepOf}
+use Rattle.demands.specs.History.{history, startOf, departures}
 
 -- ---- requests
 abbrev pub ask : ℕ → ℕ → ℕ → ℕ → Request
@@ -64,6 +66,9 @@ listIs rs p = sameReaders (live (p .readers)) rs
 
 abbrev pub obtainedAt : ℕ → ℕ → Reader
 obtainedAt b v = record { phase = Phase.Obtained v; bucket = record { 0 = b } }
+
+abbrev pub pendingAt : ℕ → Reader
+pendingAt b = record { phase = Phase.Pending; bucket = record { 0 = b } }
 
 -- ---- a table
 -- a request, the answer, and what is said of the record then
@@ -171,7 +176,7 @@ abbrev pub caseF : List Row
 caseF =
     no (at 13 9) Refusal.BadBucket
     ∷ no (at 13 0) Refusal.NoHolder
-    ∷ no (at 25 4) Refusal.UnknownStep
+    ∷ no (at 31 4) Refusal.UnknownStep
     ∷ no (at 1 1) Refusal.BadField
     ∷ []
 
@@ -181,9 +186,100 @@ caseG = no (at 19 4) Refusal.BadBucket ∷ ok (at 19 3) (flagIs Flag.Unmapped �
 abbrev pub caseH : List Row
 caseH = no (at 24 0) Refusal.NoHolder ∷ no (plain 2) Refusal.NoHolder ∷ []
 
--- C goes on from B, D from C, E from D
+-- an editor without a bucket has the page out
+abbrev pub toEditor : List Row
+toEditor =
+    out (plain 11) 0 []
+    ∷ ok (at 13 2) (countsAre 0 0 1 0 ∷ [])
+    ∷ ok (plain 14) []
+    ∷ ok (put 17 5) (countsAre 0 0 0 0 ∷ [])
+    ∷ ok (plain 3) []
+    ∷ ok (plain 5) []
+    ∷ ok (clean 0) []
+    ∷ ok (plain 7) []
+    ∷ ok (plain 7) []
+    ∷ ok (plain 7) []
+    ∷ ok (plain 7) []
+    ∷ out (plain 8) 5 (isOut ∷ [])
+    ∷ []
+
+-- it gives the page back as unmapped, and the page is loaded anew
+abbrev pub caseK : List Row
+caseK =
+    toEditor
+    ++ ok (put 30 9) (flagIs Flag.Unmapped ∷ storedIs 9 ∷ countsAre 0 0 0 0 ∷ [])
+    ∷ out (plain 12) 9 (flagIs Flag.Loading ∷ isOut ∷ [])
+    ∷ ok (put 17 1) (flagIs Flag.Available ∷ storedIs 1 ∷ countsAre 0 0 0 0 ∷ [])
+    ∷ []
+
+-- the same beside a reader: it stays
+abbrev pub caseKBeside : List Row
+caseKBeside =
+    toEditor
+    ++ ok (at 19 3) []
+    ∷ ok (put 30 9) (flagIs Flag.Unmapped ∷ storedIs 9 ∷ countsAre 0 0 0 1 ∷ listIs (pendingAt 3 ∷ []) ∷ [])
+    ∷ []
+
+-- a claim with a bucket is given back, and one without
+abbrev pub caseL : List Row
+caseL =
+    ok (ask 4 1 0 5) (flagIs Flag.Claimed ∷ listIs [] ∷ countsAre 0 1 0 0 ∷ [])
+    ∷ ok (plain 25) (flagIs Flag.Available ∷ countsAre 0 0 0 0 ∷ storedIs 5 ∷ [])
+    ∷ ok (plain 3) (flagIs Flag.Claimed ∷ [])
+    ∷ ok (plain 25) (flagIs Flag.Available ∷ countsAre 0 0 0 0 ∷ [])
+    ∷ []
+
+-- back to the claim, beside the archive and without it; then the claimant reads on, and stands last
+abbrev pub backBeside : List Row
+backBeside =
+    ok (plain 1) []
+    ∷ ok (ask 4 1 0 5) []
+    ∷ ok (plain 5) (flagIs Flag.WritebackAndPendingExcLock ∷ [])
+    ∷ ok (plain 27) (flagIs Flag.WritebackAndClaimed ∷ [])
+    ∷ []
+
+abbrev pub caseM : List Row
+caseM =
+    backBeside
+    ++ ok (plain 5) []
+    ∷ ok (plain 2) (flagIs Flag.PendingExcLock ∷ [])
+    ∷ ok (plain 27) (flagIs Flag.Claimed ∷ [])
+    ∷ ok (plain 5) []
+    ∷ ok (clean 1) (flagIs Flag.ExcLockClean ∷ [])
+    ∷ ok (plain 7) []
+    ∷ ok (plain 28) (flagIs Flag.Claimed ∷ listIs [] ∷ countsAre 0 1 0 0 ∷ [])
+    ∷ ok (at 19 3) []
+    ∷ ok (plain 26) (flagIs Flag.Available ∷ listIs (pendingAt 3 ∷ obtainedAt 1 5 ∷ []) ∷ countsAre 0 1 0 1 ∷ [])
+    ∷ []
+
+-- .. while the archive still writes
+abbrev pub caseMBeside : List Row
+caseMBeside =
+    backBeside
+    ++ ok (plain 26) (flagIs Flag.Writeback ∷ listIs (obtainedAt 1 5 ∷ []) ∷ countsAre 0 1 0 0 ∷ [])
+    ∷ ok (plain 2) (flagIs Flag.Available ∷ [])
+    ∷ []
+
+-- C goes on from B, D from C, E from D; L and M from B
 abbrev pub workedCases : List (List Row)
-workedCases = casesA ++ (caseB ++ caseC ++ caseD ++ caseE) ∷ caseF ∷ caseG ∷ caseH ∷ []
+workedCases =
+    casesA
+    ++ (caseB ++ caseC ++ caseD ++ caseE)
+    ∷ caseF
+    ∷ caseG
+    ∷ caseH
+    ∷ caseK
+    ∷ caseKBeside
+    ∷ (caseB ++ caseL)
+    ∷ (caseB ++ caseM)
+    ∷ (caseB ++ caseMBeside)
+    ∷ []
+
+-- ---- how often a case departs from each bucket
+abbrev pub departs : List Row → List ℕ
+departs rows =
+    let told = history (freshPage 0) (map (λ (r : Row). r .request) rows) [] in
+    map (λ b. departures (startOf (freshPage 0)) b told) everyBucket
 
 -- ---- case A as bytes
 -- 12; 17 with the value 5

@@ -1,6 +1,6 @@
 -- Demand 2: a well-formed request on a sound record is accepted exactly when the source's transition, with the changes of
--- RULES 3.2, allows it and the limits leave room; the next record and any withdrawn value are that transition's. Requests read
--- from bytes and written back agree both ways.
+-- RULES 3.2, or one of the six that are ours allows it and the limits leave room; the next record and any withdrawn value are that
+-- transition's. Requests read from bytes and written back agree both ways.
 use Prim.Native.Nat.{ℕ, _<_}
 use mathlib.Core.Path.{_≡_}
 use mathlib.Core.Logic.{_↔_}
@@ -21,7 +21,7 @@ use Rattle.replay.specs.Turns.{turnOf}
 use Rattle.replay.specs.Run.{lineAt, pageAt}
 
 -- a step is accepted, hands this out and leaves this page just if all that acceptance is holds: on a sound record, of a
--- well-formed request, that is the source's transition and the limits' room
+-- well-formed request, that is a transition of `Moves` and the limits' room
 abbrev pub Demand2 : Type 0
 Demand2 =
     (p p′ : Page) (q : Request) (out : Storage)

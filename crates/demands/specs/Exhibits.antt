@@ -1,8 +1,9 @@
 -- What shows that no statement is empty: a sound record for each flag and each kind of holder, each step accepted somewhere, each rule
--- broken alone somewhere, pages that were read and go on, each number given somewhere (15 and 16 by the samples of `image`). Last, where
--- soundness and demand 3 see nothing, under which flags a flag premise refuses.
+-- broken alone somewhere, pages that were read and go on, each number given somewhere (15 and 16 by the samples of `image`), and each
+-- number that 25 to 30 can answer by each of them. Last, where soundness and demand 3 see nothing, under which flags a flag premise
+-- refuses.
 use Prim.Native.Nat.{ℕ, zero, suc, _+_, _-_, _*_, _/_}
-use mathlib.Core.Bool.{Bool, true, false, not, _&&_, Bool·beq}
+use mathlib.Core.Bool.{Bool, true, false, not, cond, _&&_, Bool·beq}
 use mathlib.Core.List.{List, [], _∷_, _++_, map}
 use lib.Dec.{eqb}
 use lib.ListN.{getD, replicate}
@@ -28,7 +29,7 @@ use Rattle.replay.specs.Run.{runVerdict}
 use Rattle.image.specs.Keeping.{restoredFrom}
 use Rattle.image.specs.Samples.{Sample, claim, editing, counted, loading, prefetch, value}
 use Rattle.demands.specs.History.{after, history, startOf, departures, lastWithdrew}
-use Rattle.demands.specs.Cases.{ask, plain, at, put, clean, flagIs}
+use Rattle.demands.specs.Cases.{ask, plain, at, put, clean, flagIs, pendingAt}
 
 -- ---- a sound record for each flag and each kind of holder
 -- every one of these requests is accepted
@@ -40,7 +41,11 @@ allAccepted p (q ∷ qs) = eqb (answerNumber (stepOf p q .answer)) 0 && allAccep
 abbrev pub fills : List Request
 fills = plain 11 ∷ at 13 0 ∷ plain 14 ∷ put 17 5 ∷ []
 
--- requests that lead from a fresh record of 0 to the flag
+-- the page that these lead to from a fresh record of 0
+abbrev pub led : List Request → Page
+led requests = after (freshPage 0) requests
+
+-- requests that lead there to the flag
 abbrev pub wayTo : Flag → List Request
 wayTo Flag.Unmapped = []
 wayTo Flag.Loading = plain 12 ∷ []
@@ -61,7 +66,7 @@ flags =
     ∷ []
 
 abbrev pub pageUnder : Flag → Page
-pageUnder f = after (freshPage 0) (wayTo f)
+pageUnder f = led (wayTo f)
 
 -- the way is accepted, and the record is sound and has that flag
 abbrev pub exhibited : Flag → Bool
@@ -73,10 +78,7 @@ pub record Exhibit : Type 0 where
   pub shows : Page → Bool
 
 abbrev pub shown : Exhibit → Bool
-shown e =
-    allAccepted (freshPage 0) (e .requests)
-    && soundOf (after (freshPage 0) (e .requests))
-    && e .shows (after (freshPage 0) (e .requests))
+shown e = allAccepted (freshPage 0) (e .requests) && soundOf (led (e .requests)) && e .shows (led (e .requests))
 
 -- the exclusive holder, the loader and the writeback, by their numbers, and the first two with a bucket or without
 abbrev pub editorIs : ℕ → Bool → Page → Bool
@@ -143,6 +145,10 @@ courses =
     ∷ (fills ++ at 19 2 ∷ at 20 2 ∷ at 19 2 ∷ at 23 2 ∷ at 21 2 ∷ plain 1 ∷ plain 2 ∷ [])
     ∷ (claimsAt2 ++ edits ++ put 9 6 ∷ [])
     ∷ (claimsBare ++ edits ++ at 18 1 ∷ put 10 6 ∷ [])
+    ∷ (claimsAt2 ++ awaits ++ plain 27 ∷ plain 25 ∷ [])
+    ∷ (claimsAt2 ++ closes ++ plain 28 ∷ plain 26 ∷ [])
+    ∷ (claimsAt2 ++ edits ++ put 29 6 ∷ [])
+    ∷ (claimsBare ++ edits ++ put 30 6 ∷ [])
     ∷ []
 
 abbrev pub taken : ℕ → Bool
@@ -165,6 +171,10 @@ pageOfParts s f n e l w rs =
 abbrev pub unheld : Storage → Flag → ℕ → Readers → Page
 unheld s f n rs = pageOfParts s f n ExcState.None LoadingState.None WritebackState.None rs
 
+-- storage is empty, and nobody has it
+abbrev pub lost : Page
+lost = unheld Storage.Out Flag.Unmapped 0 noReaders
+
 abbrev pub oneAt : Phase → Reader
 oneAt phase = record { phase = phase; bucket = record { 0 = 0 } }
 
@@ -173,7 +183,7 @@ oneAt phase = record { phase = phase; bucket = record { 0 = 0 } }
 -- first check under Unmapped; an entry past the length that isn't blank
 abbrev pub brokenPages : List Page
 brokenPages =
-    unheld Storage.Out Flag.Unmapped 0 noReaders
+    lost
     ∷ pageOfParts (Storage.In 0) Flag.Claimed 0 (ExcState.Claim MaybeBucket.None 1) LoadingState.None WritebackState.None noReaders
     ∷ pageOfParts (Storage.In 0) Flag.Writeback 0 ExcState.None LoadingState.None (WritebackState.Held 1) noReaders
     ∷ pageOfParts Storage.Out Flag.LoadingExcLock 0 ExcState.None (LoadingState.PendingCounted MaybeBucket.None) WritebackState.None noReaders
@@ -208,7 +218,9 @@ resumes r =
     && Bool·beq (lastWithdrew (startOf p) []) (not (isStored (p .storage)))
     && every (λ b. eqb (departures (startOf p) b told) (getD (r .departs) b 0)) everyBucket
 
--- a loader that was read with a bucket leaves it; one that has none leaves none; a reader that was read leaves its own
+-- a loader that was read with a bucket leaves it; one that has none leaves none; a reader that was read leaves its own; a claimant that
+-- was read leaves the bucket that it was read with, and the next one its own; an editor that was read without one leaves none, or the
+-- one that it got since by an 18, which says nothing of a claimant that comes after it
 abbrev pub resumed : List Resumed
 resumed =
     record { from = loading; requests = put 17 5 ∷ []; departs = 1 ∷ 0 ∷ 0 ∷ 0 ∷ [] }
@@ -216,6 +228,12 @@ resumed =
     ∷ record { from = prefetch; requests = put 17 5 ∷ []; departs = 0 ∷ 0 ∷ 0 ∷ 0 ∷ [] }
     ∷ record { from = claim; requests = ask 22 3 0 value ∷ []; departs = 0 ∷ 0 ∷ 0 ∷ 1 ∷ [] }
     ∷ record { from = editing; requests = at 18 1 ∷ put 10 6 ∷ []; departs = 0 ∷ 0 ∷ 0 ∷ 0 ∷ [] }
+    ∷ record { from = claim; requests = plain 25 ∷ []; departs = 0 ∷ 0 ∷ 1 ∷ 0 ∷ [] }
+    ∷ record { from = claim; requests = plain 25 ∷ plain 3 ∷ plain 25 ∷ []; departs = 0 ∷ 0 ∷ 1 ∷ 0 ∷ [] }
+    ∷ record { from = claim; requests = plain 26 ∷ ask 4 3 0 value ∷ plain 25 ∷ []; departs = 0 ∷ 0 ∷ 0 ∷ 1 ∷ [] }
+    ∷ record { from = editing; requests = put 29 6 ∷ []; departs = 0 ∷ 0 ∷ 0 ∷ 0 ∷ [] }
+    ∷ record { from = editing; requests = at 18 1 ∷ put 30 6 ∷ []; departs = 0 ∷ 1 ∷ 0 ∷ 0 ∷ [] }
+    ∷ record { from = editing; requests = at 18 1 ∷ put 29 6 ∷ plain 3 ∷ plain 25 ∷ []; departs = 0 ∷ 1 ∷ 0 ∷ 0 ∷ [] }
     ∷ []
 
 -- ---- each number is given somewhere
@@ -228,7 +246,7 @@ abbrev pub share : ℕ
 share = capacity / buckets
 
 abbrev pub shareAt : ℕ → List Reader
-shareAt b = replicate share (record { phase = Phase.Pending; bucket = record { 0 = b } })
+shareAt b = replicate share (pendingAt b)
 
 abbrev pub full : Page
 full =
@@ -249,8 +267,8 @@ answered t = eqb (answerNumber (stepOf (t .page) (t .request) .answer)) (t .numb
 abbrev pub trials : List Trial
 trials =
     record { page = full; request = at 20 3; number = 0 }
-    ∷ record { page = unheld Storage.Out Flag.Unmapped 0 noReaders; request = plain 0; number = 1 }
-    ∷ record { page = freshPage 0; request = at 25 4; number = 2 }
+    ∷ record { page = lost; request = plain 0; number = 1 }
+    ∷ record { page = freshPage 0; request = at 31 4; number = 2 }
     ∷ record { page = freshPage 0; request = at 1 1; number = 3 }
     ∷ record { page = freshPage 0; request = at 13 9; number = 4 }
     ∷ record { page = freshPage 0; request = plain 1; number = 5 }
@@ -274,6 +292,57 @@ wholeNumbers =
     ∷ runVerdict (freshPage 0) 32 32
     ∷ runVerdict (freshPage 0) (lineSize * mostRequests) (lineSize * mostRequests)
     ∷ [])
+
+-- ---- what is given back
+-- a full list, and a claim at bucket 0 beside it
+abbrev pub fullClaimed : Page
+fullClaimed =
+    pageOf
+    (headWith (Storage.In 0) Flag.Claimed (withNumber 0 (share + 1) (replicate buckets (record { 0 = share })))
+    (ExcState.Claim (MaybeBucket.At (record { 0 = 0 })) 0) LoadingState.None WritebackState.None)
+    (full .readers)
+
+-- the numbers that 25 to 30 can answer, and no other (`returns-answer`): they are known steps, take no bucket and ask for no flag
+abbrev pub mayAnswer : ℕ → List ℕ
+mayAnswer n = cond (eqb n 26) (0 ∷ 1 ∷ 3 ∷ 6 ∷ 7 ∷ 11 ∷ []) (0 ∷ 1 ∷ 3 ∷ 6 ∷ [])
+
+-- each of them is accepted, and answers each of these
+abbrev pub returns : List Trial
+returns =
+    record { page = led claimsAt2; request = plain 25; number = 0 }
+    ∷ record { page = lost; request = plain 25; number = 1 }
+    ∷ record { page = led claimsAt2; request = at 25 2; number = 3 }
+    ∷ record { page = led (claimsAt2 ++ awaits); request = plain 25; number = 6 }
+    ∷ record { page = led claimsAt2; request = plain 26; number = 0 }
+    ∷ record { page = lost; request = plain 26; number = 1 }
+    ∷ record { page = led claimsAt2; request = put 26 5; number = 3 }
+    ∷ record { page = led (claimsAt2 ++ awaits); request = plain 26; number = 6 }
+    ∷ record { page = led claimsBare; request = plain 26; number = 7 }
+    ∷ record { page = fullClaimed; request = plain 26; number = 11 }
+    ∷ record { page = led (claimsBare ++ awaits); request = plain 27; number = 0 }
+    ∷ record { page = lost; request = plain 27; number = 1 }
+    ∷ record { page = led (claimsBare ++ awaits); request = ask 27 0 1 0; number = 3 }
+    ∷ record { page = led (claimsBare ++ closes); request = plain 27; number = 6 }
+    ∷ record { page = led (claimsBare ++ closes); request = plain 28; number = 0 }
+    ∷ record { page = lost; request = plain 28; number = 1 }
+    ∷ record { page = led (claimsBare ++ closes); request = put 28 5; number = 3 }
+    ∷ record { page = led (claimsBare ++ edits); request = plain 28; number = 6 }
+    ∷ record { page = led (claimsBare ++ edits); request = put 29 6; number = 0 }
+    ∷ record { page = lost; request = put 29 6; number = 1 }
+    ∷ record { page = led (claimsBare ++ edits); request = ask 29 0 1 6; number = 3 }
+    ∷ record { page = led (claimsBare ++ closes); request = put 29 6; number = 6 }
+    ∷ record { page = led (claimsBare ++ edits); request = put 30 6; number = 0 }
+    ∷ record { page = lost; request = put 30 6; number = 1 }
+    ∷ record { page = led (claimsBare ++ edits); request = ask 30 1 0 6; number = 3 }
+    ∷ record { page = freshPage 0; request = put 30 6; number = 6 }
+    ∷ []
+
+-- there is a row for this step and this number
+abbrev pub rowFor : ℕ → ℕ → Bool
+rowFor n number = not (every (λ (t : Trial). not (eqb (t .request .step) n && eqb (t .number) number)) returns)
+
+abbrev pub everyReturnShown : Bool
+everyReturnShown = every answered returns && every (λ n. every (rowFor n) (mayAnswer n)) (upFrom 25 6)
 
 -- ---- flag premises
 -- a request that is well formed, and the flags under which it is let through; under every other flag the answer is 5

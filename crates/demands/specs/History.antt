@@ -9,12 +9,12 @@ use lib.ListN.{length}
 use Rattle.laws.specs.Lists.{among}
 use Rattle.kinds.specs.declared.MaybeBucket.{MaybeBucket}
 use Rattle.page_record.specs.declared.Page.{Page}
-use Rattle.page_record.specs.Holders.{isStored, valueOf, hasBucket, loadingBucket}
+use Rattle.page_record.specs.Holders.{isStored, valueOf, hasBucket, excBucket, loadingBucket}
 use Rattle.page_record.specs.Pages.{numberAt}
 use Rattle.page_record.specs.References.{refAt}
 use Rattle.requests.specs.declared.{Request.Request, Answer.Answer, Verdict.Verdict}
 use Rattle.requests.specs.Answers.{answerNumber, answerValue, withdraws}
-use Rattle.lock.specs.Words.{raising, leaving, puttingIn, handingOut, fetching}
+use Rattle.lock.specs.Words.{raising, leaving, naming, givingBack, puttingIn, handingOut, fetching}
 use Rattle.lock.specs.Step.{stepOf}
 use Rattle.wire.specs.Answers.{lineOf}
 use Rattle.wire.specs.Requests.{fieldsOf}
@@ -77,21 +77,24 @@ answerLines (e ∷ past) = answerLines past ++ lineOf (e .answer)
 
 -- ---- what a history starts from
 -- what is taken to have happened just before: each bucket's count, which is no arrival; the value that was put in last; whether the
--- page was withdrawn since; and the loader's bucket, which the latest 13 named, after the withdrawal
+-- page was withdrawn since; the loader's bucket, which the latest 13 named, after the withdrawal; and the exclusive holder's, which
+-- the latest 4 named
 pub record Start : Type 0 where
   pub counts : ℕ → ℕ
   pub value : ℕ
   pub out : Bool
   pub loader : MaybeBucket
+  pub editor : MaybeBucket
 
 -- a history that starts at this page. A page that is out was withdrawn just before, and then its loader named its bucket by a 13;
--- what was last put in is unknown then, and nobody holds a value
+-- what was last put in is unknown then, and nobody holds a value. Its exclusive holder named its bucket by a 4
 abbrev pub startOf : Page → Start
 startOf p = record {
   counts = numberAt (p .«ref_counts»);
   value = valueOf (p .storage);
   out = not (isStored (p .storage));
   loader = loadingBucket (p .«loading_state»);
+  editor = excBucket (p .«exc_state»);
 }
 
 -- ---- the words of RULES 9
@@ -119,21 +122,29 @@ module _ (start : Start) where
   countedSince [] = hasBucket (start .loader)
   countedSince (e ∷ past) = cond (accepted (13 ∷ []) e) true (cond (accepted fetching e) false (countedSince past))
 
-  -- departures from b: accepted 20, 21, 22 naming b, and accepted 17 where a 13 was accepted since the latest accepted 11 or 12, and
-  -- the latest 13 named b
+  -- the editor's bucket: the one that the latest accepted 4 or 18 named, unless a 3 was accepted since
+  abbrev pub editorNamed : List Event → MaybeBucket
+  editorNamed [] = start .editor
+  editorNamed (e ∷ past) =
+      cond (accepted naming e) (MaybeBucket.At (e .request .bucket))
+      (cond (accepted (3 ∷ []) e) MaybeBucket.None (editorNamed past))
+
+  -- departures from b: accepted 20, 21, 22 naming b; accepted 17 where a 13 was accepted since the latest accepted 11 or 12, and the
+  -- latest 13 named b; and accepted 25, 29 and 30 where b is the editor's bucket
   abbrev pub departures : ℕ → List Event → ℕ
   departures b [] = 0
   departures b (e ∷ past) =
       cond (accepted leaving e && namesBucket b e) 1 0
       + cond (accepted (17 ∷ []) e && countedSince past) (refAt (lastCounted past) b) 0
+      + cond (accepted givingBack e) (refAt (editorNamed past) b) 0
       + departures b past
 
-  -- the last value put in: of the latest accepted 9, 10, 16 or 17, else the start's
+  -- the last value put in: of the latest accepted 9, 10, 16, 17, 29 or 30, else the start's
   abbrev pub lastPut : List Event → ℕ
   lastPut [] = start .value
   lastPut (e ∷ past) = cond (accepted puttingIn e) (e .request .value) (lastPut past)
 
-  -- hand-overs are those four and 8, 11, 12: whether the last one was a withdrawal
+  -- hand-overs are those six and 8, 11, 12: whether the last one was a withdrawal
   abbrev pub lastWithdrew : List Event → Bool
   lastWithdrew [] = start .out
   lastWithdrew (e ∷ past) = cond (accepted handingOut e) true (cond (accepted puttingIn e) false (lastWithdrew past))

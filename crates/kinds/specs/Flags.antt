@@ -134,3 +134,31 @@ awaited Flag.ExcLockDirty = Flag.ExcLockDirty
 abbrev pub lockFlag : Bool → Flag
 lockFlag true = Flag.ExcLockClean
 lockFlag false = Flag.ExcLockDirty
+
+-- steps 25 and 26, which are ours: a claim is given back; the other flags can't stand beside one, shown for a sound record
+abbrev pub unclaimed : Flag → Flag
+unclaimed Flag.Unmapped = Flag.Unmapped
+unclaimed Flag.Loading = Flag.Loading
+unclaimed Flag.LoadingExcLock = Flag.LoadingExcLock
+unclaimed Flag.Available = Flag.Available
+unclaimed Flag.Claimed = Flag.Available
+unclaimed Flag.Writeback = Flag.Writeback
+unclaimed Flag.WritebackAndClaimed = Flag.Writeback
+unclaimed Flag.WritebackAndPendingExcLock = Flag.WritebackAndPendingExcLock
+unclaimed Flag.PendingExcLock = Flag.PendingExcLock
+unclaimed Flag.ExcLockClean = Flag.ExcLockClean
+unclaimed Flag.ExcLockDirty = Flag.ExcLockDirty
+
+-- step 27, ours: back to a claim; the other flags can't stand beside an editor that waits for the archive
+abbrev pub unawaited : Flag → Flag
+unawaited Flag.Unmapped = Flag.Unmapped
+unawaited Flag.Loading = Flag.Loading
+unawaited Flag.LoadingExcLock = Flag.LoadingExcLock
+unawaited Flag.Available = Flag.Available
+unawaited Flag.Claimed = Flag.Claimed
+unawaited Flag.Writeback = Flag.Writeback
+unawaited Flag.WritebackAndClaimed = Flag.WritebackAndClaimed
+unawaited Flag.WritebackAndPendingExcLock = Flag.WritebackAndClaimed
+unawaited Flag.PendingExcLock = Flag.Claimed
+unawaited Flag.ExcLockClean = Flag.ExcLockClean
+unawaited Flag.ExcLockDirty = Flag.ExcLockDirty

@@ -1,7 +1,7 @@
 // What the steps ask of the flag, and which flag follows where that depends on the flag before.
 ghost use mathlib.Core.Path.{_≡_};
 ghost use Rattle.kinds.specs.Flags.{isAvailable, claimable, writebackDone, isUnmapped, openToReaders, notLoading};
-ghost use Rattle.kinds.specs.Flags.{released, claimed, awaited, lockFlag};
+ghost use Rattle.kinds.specs.Flags.{released, claimed, awaited, lockFlag, unclaimed, unawaited};
 ghost use Rattle.kinds.specs.Numbers.{flagNumber};
 use crate::Flag;
 
@@ -184,6 +184,44 @@ pub fn lock_flag(clean: bool) -> Flag
         Flag::ExcLockClean
     } else {
         Flag::ExcLockDirty
+    }
+}
+
+// The flag after steps 25 and 26. The other flags can't stand beside a claim, and stay.
+pub fn unclaimed(f: Flag) -> Flag
+    ensures { λ r. ⌜ r ≡ unclaimed f ⌝ }
+{
+    match f {
+        Flag::Unmapped => Flag::Unmapped,
+        Flag::Loading => Flag::Loading,
+        Flag::LoadingExcLock => Flag::LoadingExcLock,
+        Flag::Available => Flag::Available,
+        Flag::Claimed => Flag::Available,
+        Flag::Writeback => Flag::Writeback,
+        Flag::WritebackAndClaimed => Flag::Writeback,
+        Flag::WritebackAndPendingExcLock => Flag::WritebackAndPendingExcLock,
+        Flag::PendingExcLock => Flag::PendingExcLock,
+        Flag::ExcLockClean => Flag::ExcLockClean,
+        Flag::ExcLockDirty => Flag::ExcLockDirty,
+    }
+}
+
+// The flag after step 27. The other flags can't stand beside an editor that waits for the archive, and stay.
+pub fn unawaited(f: Flag) -> Flag
+    ensures { λ r. ⌜ r ≡ unawaited f ⌝ }
+{
+    match f {
+        Flag::Unmapped => Flag::Unmapped,
+        Flag::Loading => Flag::Loading,
+        Flag::LoadingExcLock => Flag::LoadingExcLock,
+        Flag::Available => Flag::Available,
+        Flag::Claimed => Flag::Claimed,
+        Flag::Writeback => Flag::Writeback,
+        Flag::WritebackAndClaimed => Flag::WritebackAndClaimed,
+        Flag::WritebackAndPendingExcLock => Flag::WritebackAndClaimed,
+        Flag::PendingExcLock => Flag::Claimed,
+        Flag::ExcLockClean => Flag::ExcLockClean,
+        Flag::ExcLockDirty => Flag::ExcLockDirty,
     }
 }
 

@@ -14,6 +14,8 @@ pub use flags::lock_flag;
 pub use flags::not_loading;
 pub use flags::open_to_readers;
 pub use flags::released;
+pub use flags::unawaited;
+pub use flags::unclaimed;
 pub use flags::writeback_done;
 pub use numbers::bucket_from;
 pub use numbers::bucket_number;

@@ -1,4 +1,4 @@
--- Acceptance is exactly the source's transition. On a head and a list of readers that are sound, a request that is well formed
+-- Acceptance is exactly a transition of `Moves`. On a head and a list of readers that are sound, a request that is well formed
 -- is accepted just if `Moves` allows it and the limits leave room, with that next state and that value handed out
 -- (`exact-parts`). Over pages this holds with no premise (`exact`): what is asked of the page and of the request is part of
 -- what acceptance is. And on a sound page, where the limits leave room, `Moves` allows a request at most one next state and

@@ -1,8 +1,10 @@
 -- Where the source takes a value apart or asserts false, a sound record has what it expects: the `assert false` arms of
--- steps 2 and 5 are not reached (`release-flags`, `claim-flags`); `get_Some_0` in 1, 3 and 24 finds a value in storage; and 8,
--- 11 and 12 hand out the value that is in storage. Each from the step's own premises. Assumes nothing.
+-- steps 2 and 5 are not reached (`release-flags`, `claim-flags`), and neither are the flags that 25, 26 and 27 have no arm for
+-- (`discard-flags`, `share-flags`, `pending-flags`); `get_Some_0` in 1, 3 and 24 finds a value in storage; and 8, 11 and 12 hand
+-- out the value that is in storage. Each from the step's own premises. Assumes nothing.
 use mathlib.Core.Path.{_≡_, ap}
 use mathlib.Core.Logic.{_⊎_}
+use mathlib.Core.Bool.{Bool}
 use mathlib.Core.List.{List}
 use Rattle.kinds.specs.declared.{Flag.Flag, Storage.Storage, Phase.Phase, Reader.Reader}
 use Rattle.readers.specs.Listed.{findIn}
@@ -16,7 +18,9 @@ use Rattle.heads.specs.Decisions.{placeOf, reader}
 use Rattle.editing.specs.Steps.{takeWriteback, releaseWriteback, bucketlessClaim, claimToPending}
 use Rattle.editing.specs.Steps.{withdrawTakeExcLockFinish}
 use Rattle.reading.specs.Steps.{withdrawAlloc, withdrawAllocNoRefcount, sharedCheckLoading}
+use Rattle.returning.specs.Steps.{discardClaim, claimToShared, pendingToClaim}
 use Rattle.lock.proofs.Keeps.Cells.{found-first}
+use Rattle.lock.proofs.Exact.Granted.{granted}
 
 module _ (h : Head) (l : List Reader) (s : Sound h l) where
   -- ---- no `assert false`
@@ -28,6 +32,20 @@ module _ (h : Head) (l : List Reader) (s : Sound h l) where
   -- 5, lines 203 to 205
   pub claim-flags : Passes (claimToPending h .premises) → (h .flag ≡ Flag.Claimed) ⊎ (h .flag ≡ Flag.WritebackAndClaimed)
   claim-flags p = known s .claims (p .0)
+
+  -- 25
+  pub discard-flags : Passes (discardClaim h .premises) → (h .flag ≡ Flag.Claimed) ⊎ (h .flag ≡ Flag.WritebackAndClaimed)
+  discard-flags p = known s .claims (p .0)
+
+  -- 26
+  pub share-flags : (full : Bool) → Passes (claimToShared h full .premises)
+      → (h .flag ≡ Flag.Claimed) ⊎ (h .flag ≡ Flag.WritebackAndClaimed)
+  share-flags full p = known s .claims (p .0)
+
+  -- 27
+  pub pending-flags : Passes (pendingToClaim h .premises)
+      → (h .flag ≡ Flag.PendingExcLock) ⊎ (h .flag ≡ Flag.WritebackAndPendingExcLock)
+  pending-flags p = granted h (s .head) .awaiting (p .0)
 
   -- ---- a value in storage
   -- 1, line 146

@@ -49,10 +49,10 @@ holderThere p q =
     let n = q .step in
     cond (eqb n 2) (not (noWriteback (p .«writeback_state»)))
     (cond (among (4 ∷ 22 ∷ []) n) (lists (live (p .readers)) (Phase.Obtained (q .value)) (q .bucket))
-    (cond (eqb n 5) (isClaim (p .«exc_state»))
-    (cond (eqb n 6) (isAwait (p .«exc_state»))
-    (cond (among (7 ∷ 8 ∷ []) n) (isPending (p .«exc_state»))
-    (cond (among (9 ∷ 10 ∷ 18 ∷ []) n) (isEditing (p .«exc_state»))
+    (cond (among (5 ∷ 25 ∷ 26 ∷ []) n) (isClaim (p .«exc_state»))
+    (cond (among (6 ∷ 27 ∷ []) n) (isAwait (p .«exc_state»))
+    (cond (among (7 ∷ 8 ∷ 28 ∷ []) n) (isPending (p .«exc_state»))
+    (cond (among (9 ∷ 10 ∷ 18 ∷ 29 ∷ 30 ∷ []) n) (isEditing (p .«exc_state»))
     (cond (among (13 ∷ 15 ∷ []) n) (isWaiting (p .«loading_state»))
     (cond (eqb n 14) (isCounted (p .«loading_state»))
     (cond (among (16 ∷ 17 ∷ []) n) (isLoading (p .«loading_state»))
@@ -73,10 +73,10 @@ applies5 p q = not (flagLets (q .step) (p .flag))
 abbrev pub applies6 : Page → Request → Bool
 applies6 p q = not (holderThere p q)
 
--- 7: the holder lacks a bucket (9, 10, 16) or has one (18)
+-- 7: the holder lacks a bucket (9, 10, 16, 26) or has one (18)
 abbrev pub bucketWrong : Page → ℕ → Bool
 bucketWrong p n =
-    cond (among (9 ∷ 10 ∷ []) n) (not (hasBucket (excBucket (p .«exc_state»))))
+    cond (among (9 ∷ 10 ∷ 26 ∷ []) n) (not (hasBucket (excBucket (p .«exc_state»))))
     (cond (eqb n 16) (not (hasBucket (loadingBucket (p .«loading_state»))))
     (cond (eqb n 18) (hasBucket (excBucket (p .«exc_state»)))
     false))
@@ -107,7 +107,7 @@ applies9 p q = holderThere p q && countOther p (q .step)
 abbrev pub applies10 : Page → Request → Bool
 applies10 p q = among raising (q .step) && eqb (numberAt (p .«ref_counts») (q .bucket .0)) ceiling
 
--- 11: the list holds 64 (9, 16, 19)
+-- 11: the list holds 64 (9, 16, 19, 26)
 abbrev pub applies11 : Page → Request → Bool
 applies11 p q = among listing (q .step) && eqb (p .readers .len) capacity
 

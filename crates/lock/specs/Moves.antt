@@ -1,7 +1,7 @@
 -- The source's state machine `RwLock` as a relation: a constructor for each `transition!{ .. }`, in the source's order and by
--- its name. Written from examples/scache/rwlock.rs, and to be read beside it; proofs/Exact.antt shows that a step is accepted
--- exactly where this relation allows it. `pre` is the state before, `post` the state after, `q` the request, and `out` what is
--- handed out (`Storage.Out`: nothing).
+-- its name, and then the six transitions that are ours, in the same words. Written from examples/scache/rwlock.rs, and to be read
+-- beside it; proofs/Exact.antt shows that a step is accepted exactly where this relation allows it. `pre` is the state before,
+-- `post` the state after, `q` the request, and `out` what is handed out (`Storage.Out`: nothing).
 --
 -- A transition is taken just if every line (name : fact) of its constructor holds. The lines stand in the order of the
 -- source's clauses and have their names, with the field's name where one alone would not tell them apart. What stands before
@@ -411,6 +411,63 @@ pub data Moves (pre : RwLock) (q : Request) (post : RwLock) (out : Storage) : Ty
       (birds-eye-let : pre .storage ≡ Storage.In value)
       (add : post .shared-state ≡ before ++ obtained (q .bucket) value ∷ after)
       (only : Only (shared-state ∷ []) pre post out)
+      → Moves pre q post out
+  -- ---- ours
+  -- The source has none of these; they are in its words. 25 to 27 match the flag as 2 and 5 do: a flag that no arm names is one that a
+  -- sound record does not have there.
+  -- 25 discard_claim
+  discard-claim : (bucket : MaybeBucket) (any : ℕ)
+      (step : q .step ≡ 25)
+      (remove : (pre .exc-state ≡ ExcState.Claim bucket any) × (post .exc-state ≡ ExcState.None))
+      (match-flag : Arm pre post Flag.Claimed Flag.Available
+      ⊎ Arm pre post Flag.WritebackAndClaimed Flag.Writeback)
+      (one-less : OneLess pre post bucket)
+      (only : Only (exc-state ∷ flag ∷ ref-counts ∷ []) pre post out)
+      → Moves pre q post out
+  -- 26 claim_to_shared
+  claim-to-shared : (bucket : MaybeBucket) (value : ℕ) (get-some : Bucket)
+      (step : q .step ≡ 26)
+      (remove : (pre .exc-state ≡ ExcState.Claim bucket value) × (post .exc-state ≡ ExcState.None))
+      (require : bucket ≡ some get-some)
+      (match-flag : Arm pre post Flag.Claimed Flag.Available
+      ⊎ Arm pre post Flag.WritebackAndClaimed Flag.Writeback)
+      (add : post .shared-state ≡ pre .shared-state ++ obtained get-some value ∷ [])
+      (only : Only (exc-state ∷ flag ∷ shared-state ∷ []) pre post out)
+      → Moves pre q post out
+  -- 27 pending_to_claim
+  pending-to-claim : (bucket : MaybeBucket) (value : ℕ)
+      (step : q .step ≡ 27)
+      (remove : pre .exc-state ≡ ExcState.PendingAwaitWriteback bucket value)
+      (add : post .exc-state ≡ ExcState.Claim bucket value)
+      (match-flag : Arm pre post Flag.PendingExcLock Flag.Claimed
+      ⊎ Arm pre post Flag.WritebackAndPendingExcLock Flag.WritebackAndClaimed)
+      (only : Only (exc-state ∷ flag ∷ []) pre post out)
+      → Moves pre q post out
+  -- 28 cancel_exc_lock_to_claim
+  cancel-exc-lock-to-claim : (bucket : MaybeBucket) (visited-count : Visited) (clean : Bool) (value : ℕ)
+      (step : q .step ≡ 28)
+      (remove : pre .exc-state ≡ ExcState.Pending bucket visited-count clean value)
+      (add : post .exc-state ≡ ExcState.Claim bucket value)
+      (update : post .flag ≡ Flag.Claimed)
+      (only : Only (exc-state ∷ flag ∷ []) pre post out)
+      → Moves pre q post out
+  -- 29 deposit_exc_lock_to_done
+  deposit-exc-lock-to-done : (bucket : MaybeBucket) (clean : Bool)
+      (step : q .step ≡ 29)
+      (remove : (pre .exc-state ≡ ExcState.Obtained bucket clean) × (post .exc-state ≡ ExcState.None))
+      (update : post .flag ≡ Flag.Available)
+      (deposit : (pre .storage ≡ Storage.Out) × (post .storage ≡ Storage.In (q .value)))
+      (one-less : OneLess pre post bucket)
+      (only : Only (exc-state ∷ flag ∷ storage ∷ ref-counts ∷ []) pre post out)
+      → Moves pre q post out
+  -- 30 deposit_exc_lock_to_unmapped
+  deposit-exc-lock-to-unmapped : (bucket : MaybeBucket) (clean : Bool)
+      (step : q .step ≡ 30)
+      (remove : (pre .exc-state ≡ ExcState.Obtained bucket clean) × (post .exc-state ≡ ExcState.None))
+      (update : post .flag ≡ Flag.Unmapped)
+      (deposit : (pre .storage ≡ Storage.Out) × (post .storage ≡ Storage.In (q .value)))
+      (one-less : OneLess pre post bucket)
+      (only : Only (exc-state ∷ flag ∷ storage ∷ ref-counts ∷ []) pre post out)
       → Moves pre q post out
 
 -- ---- what the source doesn't have: the limits

@@ -1,4 +1,4 @@
--- A request that is judged well formed has a step of at most 24, a bucket from 0 to 3 and a clean of 0 or 1, whether its step
+-- A request that is judged well formed has a step of at most the last, a bucket from 0 to 3 and a clean of 0 or 1, whether its step
 -- takes them or not (`formed`). Assumes nothing.
 use Prim.Native.Nat.{ℕ, _<_, _≤_}
 use mathlib.Core.Path.{_≡_}
@@ -19,7 +19,7 @@ step-most n t = leb→le n lastStep (halves (leb 1 n) (leb n lastStep) t .1)
 pub step-below : (n : ℕ) → T (isStep n) → n < pastLast
 step-below n t = omega (arith, step-most n t)
 
--- its step is at most 24, its bucket 0 to 3 and its clean 0 or 1, whether its step takes them or not
+-- its step is at most the last, its bucket 0 to 3 and its clean 0 or 1, whether its step takes them or not
 pub record Formed (q : Request) : Type 0 where
   pub most : q .step ≤ lastStep
   pub bucket : q .bucket .0 < buckets

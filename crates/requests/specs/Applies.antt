@@ -17,10 +17,10 @@ abbrev pub cleanTaken : ℕ → Bool
 cleanTaken n = eqb n 6
 
 abbrev pub valueTaken : ℕ → Bool
-valueTaken n = among (4 ∷ 9 ∷ 10 ∷ 16 ∷ 17 ∷ 22 ∷ []) n
+valueTaken n = among (4 ∷ 9 ∷ 10 ∷ 16 ∷ 17 ∷ 22 ∷ 29 ∷ 30 ∷ []) n
 
 -- ---- when each number applies
--- 2: the step is not 1 to 24
+-- 2: the step is not 1 to 30
 abbrev pub applies2 : Request → Bool
 applies2 q = eqb (q .step) 0 || ltb lastStep (q .step)
 

@@ -9,7 +9,7 @@ use Rattle.requests.specs.Premises.{verdict}
 
 -- the highest step number
 abbrev pub lastStep : ℕ
-lastStep = 24
+lastStep = 30
 
 -- the first number that names no step
 abbrev pub pastLast : ℕ
@@ -26,9 +26,9 @@ takesBucket n = eqb n 4 || eqb n 13 || leb 18 n && leb n 24
 abbrev pub takesClean : ℕ → Bool
 takesClean n = eqb n 6
 
--- 4, 9, 10, 16, 17 and 22 take a value
+-- 4, 9, 10, 16, 17, 22, 29 and 30 take a value
 abbrev pub takesValue : ℕ → Bool
-takesValue n = eqb n 4 || eqb n 9 || eqb n 10 || eqb n 16 || eqb n 17 || eqb n 22
+takesValue n = eqb n 4 || eqb n 9 || eqb n 10 || eqb n 16 || eqb n 17 || eqb n 22 || eqb n 29 || eqb n 30
 
 -- a field that the step doesn't take is zero, and clean is at most 1
 abbrev pub fieldsFit : Request → Bool

@@ -5,7 +5,7 @@ use crate::Request;
 use kinds::BUCKETS;
 
 // The highest step number.
-const LAST_STEP: u8 = 24;
+const LAST_STEP: u8 = 30;
 
 // Whether the number names a step.
 pub fn is_step(n: u8) -> bool
@@ -26,7 +26,7 @@ fn takes_bucket(n: u8) -> bool
     }
 }
 
-// 4, 9, 10, 16, 17 and 22 take a value.
+// 4, 9, 10, 16, 17, 22, 29 and 30 take a value.
 fn takes_value(n: u8) -> bool
     ensures { λ r. ⌜ r ≡ takesValue n ⌝ }
 {
@@ -37,6 +37,8 @@ fn takes_value(n: u8) -> bool
         16 => true,
         17 => true,
         22 => true,
+        29 => true,
+        30 => true,
         _ => false,
     }
 }

@@ -14,6 +14,8 @@ use Rattle.editing.specs.Steps.{depositDowngradeExcLock, depositDowngradeExcLoc
 use Rattle.reading.specs.Steps.{withdrawAlloc, withdrawAllocNoRefcount, loadingIncCount, obtainLoading}
 use Rattle.reading.specs.Steps.{obtainLoadingNoRefcount, depositLoadingToShared, depositLoadingToDone, sharedIncCount}
 use Rattle.reading.specs.Steps.{sharedDecCount, sharedCheckExc, sharedCheckLoading}
+use Rattle.returning.specs.Steps.{discardClaim, claimToShared, pendingToClaim, cancelExcLockToClaim}
+use Rattle.returning.specs.Steps.{depositExcLockToDone, depositExcLockToUnmapped}
 use Rattle.steps.specs.declared.Sought.{Sought}
 
 -- a number that names no step is refused
@@ -48,6 +50,12 @@ steps h q found full =
     ∷ sharedDecCount h q found
     ∷ sharedCheckExc h q found
     ∷ sharedCheckLoading h q found
+    ∷ discardClaim h
+    ∷ claimToShared h full
+    ∷ pendingToClaim h
+    ∷ cancelExcLockToClaim h
+    ∷ depositExcLockToDone h q
+    ∷ depositExcLockToUnmapped h q
     ∷ []
 
 abbrev pub stepAt : Head → Request → Found → Bool → Step
@@ -69,6 +77,7 @@ sought q =
     ∷ nobody ∷ nobody ∷ nobody ∷ nobody ∷ nobody
     ∷ nobody ∷ nobody ∷ nobody ∷ nobody ∷ nobody
     ∷ pending ∷ pending2 ∷ obtained ∷ pending ∷ pending2
+    ∷ nobody ∷ nobody ∷ nobody ∷ nobody ∷ nobody ∷ nobody
     ∷ []
 
 unfoldable pub soughtOf : Request → Sought

@@ -1,4 +1,4 @@
-// The 24 steps on a page's head (RULES 3.2). The reader that a request looks for is sought in the list (`sought_by`), and the step
+// The 30 steps on a page's head (RULES 3.2). The reader that a request looks for is sought in the list (`sought_by`), and the step
 // is decided (`decide`): its answer, the head that it leaves, and what it does to the list. No function here sees the list, and
 // each takes any value of its types.
 ghost use mathlib.Core.Path.{_≡_};
@@ -33,6 +33,12 @@ use reading::withdraw_alloc;
 use reading::withdraw_alloc_no_refcount;
 use requests::Refusal;
 use requests::Request;
+use returning::cancel_exc_lock_to_claim;
+use returning::claim_to_shared;
+use returning::deposit_exc_lock_to_done;
+use returning::deposit_exc_lock_to_unmapped;
+use returning::discard_claim;
+use returning::pending_to_claim;
 
 // The reader that a step looks for.
 pub enum Sought {
@@ -103,6 +109,12 @@ pub fn decide(head: Head, request: Request, found: Found, full: bool) -> Decisio
         22 => shared_dec_count(head, request, found),
         23 => shared_check_exc(head, request, found),
         24 => shared_check_loading(head, request, found),
-        25..=255 => refuse(head, Refusal::UnknownStep),
+        25 => discard_claim(head),
+        26 => claim_to_shared(head, full),
+        27 => pending_to_claim(head),
+        28 => cancel_exc_lock_to_claim(head),
+        29 => deposit_exc_lock_to_done(head, request),
+        30 => deposit_exc_lock_to_unmapped(head, request),
+        31..=255 => refuse(head, Refusal::UnknownStep),
     }
 }

@@ -1,6 +1,6 @@
 //! Requests written back into a buffer.
 
-use super::damage::{one_wrong, GOOD};
+use super::damage::{every_field, one_wrong, GOOD};
 use super::random::Random;
 use super::request::{step, EDGES};
 use super::stream::Stream;
@@ -11,7 +11,7 @@ const ROOMS: [usize; 6] = [0, 1, 15, 16, 17, 40];
 
 /// Every step, every room, every kind of wrong, short payloads and long ones.
 pub fn play(stream: &mut Stream, random: &mut Random) {
-    for number in 1..=24 {
+    for number in 1..=30 {
         let bucket = u8::from(takes_bucket(number)) * random.byte_below(4);
         let clean = u8::from(takes_clean(number));
         let value = u64::from(takes_value(number)) * random.number();
@@ -25,6 +25,9 @@ pub fn play(stream: &mut Stream, random: &mut Random) {
     }
     for (place, request) in one_wrong().iter().enumerate() {
         stream.write_back(request, ROOMS[place % ROOMS.len()]);
+    }
+    for request in every_field(25..=31) {
+        stream.write_back(&request, 16);
     }
     for value in EDGES {
         stream.write_back(&step(22).at(3).of(value).bytes(), 16);

@@ -21,7 +21,7 @@ pub const GOOD: [Draft; 5] = [
 fn wrongs() -> Vec<Wrong> {
     vec![
         |good| good.step(0),
-        |good| good.step(25),
+        |good| good.step(31),
         |good| good.step(255),
         |good| good.at(1),
         |good| good.at(4),
@@ -43,7 +43,7 @@ fn wrongs() -> Vec<Wrong> {
 /// One wrong for each number and each field.
 fn main_wrongs() -> Vec<Wrong> {
     vec![
-        |good| good.step(25),
+        |good| good.step(31),
         |good| good.at(4),
         |good| good.at(1),
         |good| good.clean(2),
@@ -52,6 +52,9 @@ fn main_wrongs() -> Vec<Wrong> {
         |good| good.of(1 << 63),
     ]
 }
+
+/// Step 25 with one bit more, and with all bits.
+const HIGH_BITS: [u8; 4] = [25 + 32, 25 + 64, 25 + 128, 255];
 
 type Wrong = fn(Draft) -> Draft;
 
@@ -76,13 +79,17 @@ fn two_wrong(wrongs: &[Wrong]) -> Vec<[u8; RECORD]> {
     requests
 }
 
-/// Every step with each field set that it may not take.
-fn every_field() -> Vec<[u8; RECORD]> {
-    (0..=26)
+/// Each of these steps with each field set that it may not take, and one of bytes
+/// 3 to 7. Some take the field, but none bucket 4.
+pub fn every_field(numbers: impl IntoIterator<Item = u8>) -> Vec<[u8; RECORD]> {
+    numbers
+        .into_iter()
         .flat_map(|number| {
             [
+                step(number).at(1).bytes(),
                 step(number).at(4).bytes(),
                 step(number).clean(1).bytes(),
+                step(number).blank(3 + usize::from(number % 5), 1).bytes(),
                 step(number).of(1 << 32).bytes(),
             ]
         })
@@ -97,9 +104,13 @@ pub fn play(stream: &mut Stream, plan: &Plan) {
     for request in one_wrong() {
         stream.ask(&request);
     }
+    let last = if plan.long() { 0..=32 } else { 25..=31 };
+    for request in every_field(last) {
+        stream.ask(&request);
+    }
     let wrongs = if plan.long() { wrongs() } else { main_wrongs() };
     stream.run_all(&two_wrong(&wrongs));
-    stream.run_all(&every_field());
+    stream.run_all(&every_field((0..=32).chain(HIGH_BITS)));
     stream.look();
     not_whole(stream);
     let mut page = situations::page_after(&situations::available());
@@ -113,11 +124,11 @@ pub fn play(stream: &mut Stream, plan: &Plan) {
 }
 
 /// Payloads of every length around one request's, of a good request and of one
-/// that has all else wrong too, by value and lent.
+/// that has fields wrong too, by value and lent.
 fn not_whole(stream: &mut Stream) {
     let good = [step(19).at(2).bytes(); 2];
-    let bad = [[255; RECORD]; 2];
-    for length in [0, 1, 15, 17, 32] {
+    for (length, byte) in [(0, 255), (1, 31), (15, 30), (17, 25), (32, 255)] {
+        let bad = [[byte; RECORD]; 2];
         for bytes in [good, bad] {
             stream.ask(&bytes.as_flattened()[..length]);
             stream.ask(&bytes.as_flattened()[..length]);

@@ -14,6 +14,7 @@ pub mod pages;
 pub mod random;
 pub mod request;
 pub mod restarts;
+pub mod returns;
 pub mod runs;
 pub mod scripts;
 pub mod situations;
@@ -70,6 +71,7 @@ pub fn stream(plan: &Plan) -> Vec<u8> {
     stream.look();
     scripts::play(&mut stream, &mut random);
     scripts::play_situations(&mut stream, &mut random, plan);
+    returns::play(&mut stream, &mut random, plan);
     damage::play(&mut stream, plan);
     back::play(&mut stream, &mut random);
     runs::play(&mut stream, &mut random, plan);

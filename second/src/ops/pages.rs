@@ -6,6 +6,7 @@ use super::drawn::{any_page, change, walked_page};
 use super::image::{after, entry_place, Image, ROOMS};
 use super::random::Random;
 use super::request::{step, Draft};
+use super::returns::of_kind;
 use super::situations::{
     self, available, claimed, claimed_counted, editing, editing_uncounted, load_counted,
     load_pending, loading, loading_uncounted, pending, unmapped, visited, visiting, writeback,
@@ -35,8 +36,8 @@ pub fn main_pages() -> Vec<(u8, Image)> {
     let full = after(&crowd([16; 4]));
     let most = after(&crowd([1, 0, 31, 0]));
     vec![
-        (1, after(&unmapped()).set(STORAGE_IN, 0)),
         (1, after(&load_pending()).set(STORAGE_IN, 1)),
+        (1, after(&editing()).set(STORAGE_IN, 1)),
         (2, after(&claimed()).value(EXC_VALUE, OTHER)),
         (2, after(&visited()).set(VISITED, 5)),
         (2, after(&claimed_counted()).set(EXC_BUCKET, 4).count(3, 1)),
@@ -48,6 +49,7 @@ pub fn main_pages() -> Vec<(u8, Image)> {
         (4, after(&loading()).set(LOADER_BUCKET, 200).count(2, 0)),
         (5, after(&unmapped()).count(2, 1)),
         (6, after(&claimed()).flag(Flag::PendingExcLock)),
+        (6, after(&pending()).flag(Flag::Claimed)),
         (7, after(&available()).entry(1, 3, 3, OTHER)),
         (7, after(&unmapped()).entry(0, 1, 4, 0).count(1, 0)),
         (8, full.clone().length(65)),
@@ -86,7 +88,7 @@ fn holders_apart() -> Vec<(u8, Image)> {
     };
     let loading = after(&loading_uncounted()).set(EXC_BUCKET, 255);
     vec![
-        (1, after(&editing()).set(STORAGE_IN, 1)),
+        (1, after(&unmapped()).set(STORAGE_IN, 0)),
         (1, loading.clone().set(STORAGE_IN, 1)),
         (1, after(&visiting()).set(STORAGE_IN, 0)),
         (2, after(&pending()).value(EXC_VALUE, 0)),
@@ -109,12 +111,14 @@ fn holders_apart() -> Vec<(u8, Image)> {
         (5, after(&loading_uncounted()).count(0, 3)),
         (6, after(&unmapped()).flag(Flag::LoadingExcLock)),
         (6, after(&claimed()).flag(Flag::Unmapped)),
-        (6, after(&pending()).flag(Flag::Claimed)),
+        (6, after(&claimed_counted()).flag(Flag::Available)),
+        (6, after(&claimed_counted()).flag(Flag::WritebackAndClaimed)),
         (6, after(&load_counted()).flag(Flag::Loading)),
         (6, after(&visiting()).flag(Flag::ExcLockClean)),
         (6, after(&loading_uncounted()).flag(Flag::LoadingExcLock)),
         (6, after(&writeback()).flag(Flag::Available)),
         (6, after(&writeback_and_claimed()).flag(Flag::Writeback)),
+        (6, after(&writeback_and_claimed()).flag(Flag::Claimed)),
         (
             6,
             after(&writeback_and_pending()).flag(Flag::PendingExcLock),
@@ -202,7 +206,7 @@ pub fn without_meaning() -> Vec<Vec<u8>> {
 /// The pages of the tables, payloads without meaning, a loader that leaves, and
 /// drawn pages.
 pub fn play(stream: &mut Stream, random: &mut Random, plan: &Plan, walked: &[Page]) {
-    let pages = main_pages().into_iter().chain(plan.share(more_pages(), 7));
+    let pages = main_pages().into_iter().chain(plan.share(more_pages(), 8));
     for ((_, image), room) in pages.zip(ROOMS.into_iter().cycle()) {
         meet(stream, random, &image, room);
     }
@@ -255,13 +259,19 @@ fn finish_load(stream: &mut Stream, random: &mut Random) {
 }
 
 /// A page, and every function on it; so much room is for its image. Where it is
-/// sound, more is asked, so that its holders show.
+/// sound, more is asked, so that its holders show; where it is not, all that its
+/// exclusive holder might give back.
 fn meet(stream: &mut Stream, random: &mut Random, image: &Image, room: usize) {
     stream.raw(&image.0);
     stream.look();
     stream.write_image(room);
-    let length = if sound(stream.page()) { 9 } else { 2 };
-    ask_on(stream, random, length);
+    let sound = sound(stream.page());
+    let holder = stream.page().exc_state.filter(|_| !sound);
+    for request in holder.into_iter().flat_map(of_kind) {
+        stream.ask(&request.bytes());
+        stream.ask(&request.bytes());
+    }
+    ask_on(stream, random, if sound { 9 } else { 2 });
 }
 
 /// Steps, and a run of so many more, on the page as it is.

@@ -8,8 +8,8 @@ use super::random::Random;
 use super::request::{step, Draft, EDGES};
 use super::situations::{
     self, available, claimed, claimed_counted, editing, editing_uncounted, load_counted,
-    load_pending, loading, loading_uncounted, page_of, pending, then, unmapped, visited, visiting,
-    writeback, LOADED,
+    load_pending, loading, loading_uncounted, page_of, pending, then, unmapped, unmapped_again,
+    visited, visiting, writeback, writeback_and_claimed_uncounted, LOADED,
 };
 use super::stream::Stream;
 use super::Plan;
@@ -41,7 +41,7 @@ pub fn main_kept() -> Vec<Page> {
 
 /// A claim without a bucket beside a writeback, and readers of all phases.
 fn busy() -> Page {
-    page_of(&then(writeback(), &[step(3)]), u64::MAX)
+    page_of(&writeback_and_claimed_uncounted(), u64::MAX)
 }
 
 /// A loaded page with 64 readers of all phases, 31 of them at each of two
@@ -69,7 +69,7 @@ pub fn more_kept(plan: &Plan) -> Vec<Page> {
     let mut scripts = situations::all();
     scripts.extend(without_buckets());
     scripts.extend(at_the_first_bucket());
-    scripts.extend([vec![], full(), ceiling()]);
+    scripts.extend([vec![], unmapped_again(), full(), ceiling()]);
     let pages = scripts.iter().zip(values);
     pages
         .map(|(script, value)| page_of(script, value))
@@ -206,7 +206,7 @@ pub fn play(stream: &mut Stream, random: &mut Random, plan: &Plan, walked: &[Pag
     for room in ROOMS {
         stream.write_image(room);
     }
-    for page in plan.share(more_kept(plan), 28) {
+    for page in plan.share(more_kept(plan), 30) {
         restore(stream, random, &of(&page));
     }
     let damaged = main_damaged(plan)

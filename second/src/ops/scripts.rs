@@ -12,9 +12,10 @@ use crate::run::answer_line;
 use crate::steps::{takes_bucket, takes_value};
 use crate::wire::RECORD;
 
-/// Cases A to H, where C goes on from B, D from C, E from D; then the steps that
-/// no case accepts.
-const CASES: [&[Draft]; 9] = [
+/// Cases A to H, K and L, where C and L go on from B, D from C, E from D; then
+/// the steps up to 24 that no case accepts, and those that give back, where
+/// nobody has anything.
+const CASES: [&[Draft]; 12] = [
     // A
     &[step(12), step(17).of(5)],
     &[step(12), step(19).at(1), step(17).of(5)],
@@ -53,11 +54,41 @@ const CASES: [&[Draft]; 9] = [
         step(9).of(6),
     ],
     // F
-    &[step(13).at(9), step(13), step(25).at(4), step(1).at(1)],
+    &[step(13).at(9), step(13), step(31).at(4), step(1).at(1)],
     // G
     &[step(19).at(4), step(19).at(3)],
     // H
     &[step(24), step(2)],
+    // K
+    &[
+        step(11),
+        step(13).at(2),
+        step(14),
+        step(17).of(5),
+        step(3),
+        step(5),
+        step(6),
+        step(7).times(4),
+        step(8),
+        step(30).of(9),
+        step(12),
+        step(17).of(1),
+    ],
+    // L
+    &[
+        step(11),
+        step(13).at(2),
+        step(14),
+        step(19).at(1),
+        step(23).at(1),
+        step(24).at(1),
+        step(17).of(5),
+        step(24).at(1),
+        step(4).at(1).of(5),
+        step(25),
+        step(3),
+        step(25),
+    ],
     // 16, 21, 22, 3, 18 and 10
     &[
         step(11),
@@ -75,6 +106,14 @@ const CASES: [&[Draft]; 9] = [
         step(8),
         step(18).at(3),
         step(10).of(6),
+    ],
+    &[
+        step(25),
+        step(26),
+        step(27),
+        step(28),
+        step(29).of(5),
+        step(30).of(5),
     ],
 ];
 
@@ -218,6 +257,7 @@ fn ceilings() -> Vec<Ceiling> {
                 step(18).at(2),
                 step(18),
                 step(10).of(9),
+                step(25),
             ],
         ),
         // An editor and a full list: it can keep its claim, but it cannot stay
@@ -232,6 +272,52 @@ fn ceilings() -> Vec<Ceiling> {
                 step(20).at(3),
                 step(9).of(1),
                 step(19),
+            ],
+        ),
+        // An editor at a full bucket and a full list: it can keep its claim, but
+        // it cannot become a reader before one has left, and then it stays
+        // counted. Then it goes. A claim without a bucket cannot become a reader
+        // at all, and the list is not asked for.
+        (
+            [load, edit, &readers([30, 31, 3, 0]), &[step(18)]].concat(),
+            vec![
+                step(10).of(LOADED),
+                step(26),
+                step(20).at(2),
+                step(26),
+                step(19),
+                step(20).at(2),
+                step(4).of(LOADED),
+                step(25),
+                step(19).times(2),
+                step(3),
+                step(19).at(3),
+                step(26),
+                step(25),
+                step(26),
+            ],
+        ),
+        // An editor at a full bucket and a full list can leave, too.
+        (
+            [load, edit, &readers([31, 30, 3, 0]), &[step(18).at(1)]].concat(),
+            vec![
+                step(19).at(1),
+                step(29).of(9),
+                step(19).at(1),
+                step(29).of(9),
+            ],
+        ),
+        // The same, and the page is given back.
+        (
+            [load, edit, &readers([31, 0, 3, 30]), &[step(18).at(3)]].concat(),
+            vec![
+                step(19).at(3),
+                step(30).of(9),
+                step(19).at(3),
+                step(20).at(2),
+                step(19).at(3).times(2),
+                step(30).of(9),
+                step(11),
             ],
         ),
     ]
@@ -393,7 +479,7 @@ pub fn play_situations(stream: &mut Stream, random: &mut Random, plan: &Plan) {
         for request in accepted.iter().filter(|_| plan.long()) {
             stream.play(&situation);
             stream.ask(request);
-            stream.look();
+            stream.look_closely();
         }
     }
 }
@@ -401,7 +487,7 @@ pub fn play_situations(stream: &mut Stream, random: &mut Random, plan: &Plan) {
 /// A good request of every step, at two buckets where it takes one.
 fn every_step() -> Vec<[u8; RECORD]> {
     let mut requests = vec![step(6).clean(1).bytes()];
-    for number in 1..=24 {
+    for number in 1..=30 {
         let value = if takes_value(number) { LOADED } else { 0 };
         let buckets: &[u8] = if takes_bucket(number) { &[1, 3] } else { &[0] };
         for &bucket in buckets {

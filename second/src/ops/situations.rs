@@ -24,6 +24,7 @@ pub fn all() -> Vec<Vec<Draft>> {
         claimed(),
         claimed_counted(),
         writeback_and_claimed(),
+        writeback_and_claimed_uncounted(),
         writeback_and_pending(),
         pending(),
         visiting(),
@@ -116,6 +117,11 @@ pub fn writeback_and_claimed() -> Vec<Draft> {
     then(writeback(), &[step(4).at(3).of(LOADED)])
 }
 
+/// A claim without a bucket beside a writeback.
+pub fn writeback_and_claimed_uncounted() -> Vec<Draft> {
+    then(writeback(), &[step(3)])
+}
+
 /// A claimant that waits for the writeback.
 pub fn writeback_and_pending() -> Vec<Draft> {
     then(writeback_and_claimed(), &[step(5)])
@@ -168,6 +174,11 @@ pub fn editing_uncounted() -> Vec<Draft> {
         step(19).at(1),
     ];
     script.to_vec()
+}
+
+/// Unmapped by an editor, with what it put in and a reader that stays.
+pub fn unmapped_again() -> Vec<Draft> {
+    then(editing(), &[step(30).of(LOADED)])
 }
 
 /// A script, and more after it.

@@ -91,6 +91,15 @@ impl Stream {
         self.push(6, 0, &[]);
     }
 
+    /// A look at the page, and its image where there is an exclusive holder,
+    /// whom a look does not show.
+    pub fn look_closely(&mut self) {
+        self.look();
+        if self.page().exc_state.is_some() {
+            self.write_image(IMAGE);
+        }
+    }
+
     /// A raw page.
     pub fn raw(&mut self, image: &[u8; IMAGE]) {
         self.push(7, 0, image);

@@ -8,6 +8,7 @@ use super::situations::PREFETCHES;
 use super::stream::Stream;
 use super::Plan;
 use crate::kinds::SharedState;
+use crate::raw::IMAGE;
 use crate::record::Page;
 use crate::run::answer_line;
 use crate::steps::{takes_bucket, takes_clean, takes_value};
@@ -15,64 +16,99 @@ use crate::wire::RECORD;
 
 /// How the requests of a walk are drawn.
 struct Mix {
-    /// The steps; one that stands there twice is drawn twice as often.
-    steps: &'static [u8],
+    /// Steps, and how often each of them is drawn among all.
+    steps: &'static [(usize, &'static [u8])],
     /// How the page is loaded first, if it is.
     load: Option<fn(&mut Random) -> Vec<Draft>>,
     /// How many requests a walk makes before the next one starts.
     length: usize,
 }
 
-const MIXES: [Mix; 5] = [READERS, LOADERS, EDITORS, ARCHIVE, EVERYTHING];
+const MIXES: [Mix; 6] = [READERS, LOADERS, EDITORS, RETURNS, ARCHIVE, EVERYTHING];
 
-/// Readers come and go, and more of them come than go.
+/// Readers come and go, and more of them come than go, until the list is full.
+/// Among them are claimants that change their mind.
 const READERS: Mix = Mix {
     steps: &[
-        19, 19, 19, 19, 19, 19, 19, 19, 23, 23, 23, 24, 24, 24, 20, 21, 22, 1, 2,
+        (16, &[19]),
+        (6, &[23, 24]),
+        (2, &[1, 2, 4, 20, 21, 22]),
+        (1, &[3, 25, 26]),
     ],
     load: Some(load),
     length: 400,
 };
 
-/// Loaders, until the page is there, and whoever comes next. A page is loaded
-/// once, so these walks are short.
+/// Loaders, until the page is there, and whoever comes next. Nobody unmaps it,
+/// so these walks are short.
 const LOADERS: Mix = Mix {
     steps: &[
-        1, 3, 4, 11, 11, 12, 13, 13, 14, 15, 16, 17, 17, 19, 20, 21, 23, 24,
+        (2, &[11, 13, 17]),
+        (1, &[1, 3, 4, 12, 14, 15, 16, 19, 20, 21, 23, 24]),
     ],
     load: None,
     length: 20,
 };
 
-/// Claimants and editors all the way, and a few readers in their way.
+/// Claimants and editors all the way, and a few readers in their way. Seldom one
+/// gives back what he has; so there is time to come to the page.
 const EDITORS: Mix = Mix {
     steps: &[
-        3, 4, 4, 4, 5, 5, 6, 6, 7, 7, 7, 7, 7, 7, 8, 8, 8, 9, 10, 10, 18, 18, 19, 23, 24, 20, 20,
-        20, 21, 21, 22,
+        (12, &[7, 8, 10, 20]),
+        (8, &[4, 5, 6, 9, 18, 21, 22]),
+        (2, &[3, 19, 23, 24, 26]),
+        (1, &[12, 16, 17, 25, 27, 28, 29, 30]),
     ],
     load: Some(load),
     length: 300,
 };
 
+/// Claimants and editors who give back what they have, and loaders who come
+/// where the page is unmapped.
+const RETURNS: Mix = Mix {
+    steps: &[
+        (12, &[7, 8, 20]),
+        (8, &[4, 5, 6, 16, 21, 30]),
+        (4, &[18, 22, 23, 24, 26, 29]),
+        (2, &[9, 10, 11, 13, 14, 19]),
+        (1, &[1, 2, 3, 12, 15, 17, 25, 27, 28]),
+    ],
+    load: Some(load),
+    length: 200,
+};
+
 /// The archive beside a claim, on a page that was loaded without a bucket.
 const ARCHIVE: Mix = Mix {
     steps: &[
-        1, 1, 1, 2, 3, 4, 4, 5, 6, 7, 7, 7, 8, 9, 9, 18, 19, 23, 24, 20, 20, 21, 21, 22,
+        (8, &[7, 8]),
+        (5, &[4, 5, 6, 9, 18, 20, 21]),
+        (3, &[1, 2, 10, 22, 26]),
+        (1, &[3, 19, 23, 24, 25, 27, 29]),
     ],
     load: Some(prefetch),
     length: 200,
 };
 
+/// All steps. Those on the way to the page come more often than those that lead
+/// away from it.
 const EVERYTHING: Mix = Mix {
     steps: &[
-        1, 2, 3, 4, 5, 6, 7, 8, 9, 10, 11, 12, 13, 14, 15, 16, 17, 18, 19, 20, 21, 22, 23, 24,
+        (8, &[7, 8]),
+        (4, &[4, 5, 6, 9, 10, 20]),
+        (2, &[18, 21, 22, 26]),
+        (
+            1,
+            &[
+                1, 2, 3, 11, 12, 13, 14, 15, 16, 17, 19, 23, 24, 25, 27, 28, 29, 30,
+            ],
+        ),
     ],
     load: None,
     length: 60,
 };
 
 /// How often a request is drawn again until the page accepts it.
-const TRIES: usize = 12;
+const TRIES: usize = 20;
 
 /// The longest run in a walk.
 const LONGEST_RUN: usize = 12;
@@ -91,8 +127,8 @@ pub fn play(stream: &mut Stream, random: &mut Random, plan: &Plan) -> Vec<Page> 
     pages
 }
 
-/// One walk from a fresh page, with looks strewn in, and in a long stream with
-/// restarts.
+/// One walk from a fresh page, with looks strewn in, with images where the
+/// exclusive holder is another than before, and in a long stream with restarts.
 fn walk(
     stream: &mut Stream,
     random: &mut Random,
@@ -101,19 +137,20 @@ fn walk(
     length: usize,
     pages: &mut Vec<Page>,
 ) {
-    let hand = Hand {
-        steps: mix.steps,
-        bucket: random.byte_below(4),
-    };
+    let hand = Hand::of(mix, random.byte_below(4));
     stream.fresh(random.value());
     if let Some(load) = mix.load {
         stream.run_all(&records(&load(random)));
     }
     let mut left = length;
     while left > 0 {
+        let holder = stream.page().exc_state;
         left -= go_on(stream, random, &hand, left);
         if random.one_in(3) {
             stream.look();
+        }
+        if stream.page().exc_state != holder && random.one_in(12) {
+            stream.write_image(IMAGE);
         }
         if plan.long() && random.one_in(50) {
             stream.restart();
@@ -159,14 +196,24 @@ fn go_on(stream: &mut Stream, random: &mut Random, hand: &Hand, left: usize) -> 
     length
 }
 
-/// What requests are drawn by: the steps, and a bucket that is liked best, so
-/// that a bucket can come to its ceiling before the list is full.
+/// What requests are drawn by: the steps, each as often as it is drawn, and a
+/// bucket that is liked best, so that a bucket can come to its ceiling before the
+/// list is full.
 pub struct Hand {
-    steps: &'static [u8],
+    steps: Vec<u8>,
     bucket: u8,
 }
 
 impl Hand {
+    fn of(mix: &Mix, bucket: u8) -> Hand {
+        let steps = mix.steps.iter();
+        let steps = steps.flat_map(|&(often, steps)| steps.repeat(often));
+        Hand {
+            steps: steps.collect(),
+            bucket,
+        }
+    }
+
     /// One for a page that came from elsewhere: it knows what the holders can
     /// do next, because a look does not show them.
     pub fn for_page(page: &Page) -> Hand {
@@ -177,10 +224,7 @@ impl Hand {
         } else {
             EVERYTHING
         };
-        Hand {
-            steps: mix.steps,
-            bucket: 0,
-        }
+        Hand::of(&mix, 0)
     }
 
     /// A request: mostly one that the page accepts, at times a wrong one.
@@ -220,7 +264,7 @@ impl Hand {
     /// A good request whose fields fit the page, as far as one can tell from
     /// its readers and its storage.
     fn fitting(&self, random: &mut Random, page: &Page) -> [u8; RECORD] {
-        let number = random.pick(self.steps);
+        let number = random.pick(&self.steps);
         let mut draft = step(number);
         if takes_bucket(number) {
             draft = draft.at(self.fitting_bucket(random, page, number));
@@ -264,7 +308,7 @@ fn fitting_value(random: &mut Random, page: &Page, number: u8) -> u64 {
 
 /// A request whose fields nobody fitted: any step, any bucket, any choice.
 fn careless(random: &mut Random) -> [u8; RECORD] {
-    let mut draft = step(random.byte_below(27)).at(random.byte_below(6));
+    let mut draft = step(random.byte_below(33)).at(random.byte_below(6));
     if random.one_in(4) {
         draft = draft.clean(random.byte_below(3));
     }

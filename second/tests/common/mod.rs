@@ -1,4 +1,9 @@
-//! Streams of `ops`, taken apart.
+//! Streams of `ops`, taken apart, and the past that they give a page. Each test
+//! takes of it what it needs.
+
+#![allow(dead_code)]
+
+pub mod history;
 
 use second::drill::{Drill, Operation};
 use second::kinds::Answer;
@@ -32,16 +37,18 @@ fn first_operation(stream: &[u8]) -> Option<(Operation, &[u8])> {
     Some((operation, rest))
 }
 
-/// The requests from one page that is fresh, raw or read to the next.
-#[allow(dead_code)]
+/// The requests from one page that is fresh, raw or read to the next, and the
+/// operation (1, 7 or 8) that made the page.
 pub struct Walk {
+    pub origin: u8,
     pub start: Page,
     pub asked: Vec<Asked>,
 }
 
-/// One request, single or in a run that was not refused as a whole.
-#[allow(dead_code)]
+/// One request, single or in a run that was not refused as a whole, and its
+/// operation (2, 3 or 4).
 pub struct Asked {
+    pub operation: u8,
     pub before: Page,
     pub bytes: Vec<u8>,
     pub answer: Answer,
@@ -50,16 +57,15 @@ pub struct Asked {
 
 /// All requests of a stream. On the way it is seen that the drill leaves the
 /// pages and writes the answers that single requests do.
-#[allow(dead_code)]
 pub fn walks(stream: &[u8]) -> Vec<Walk> {
     let mut drill = Drill::start();
-    let mut walks = vec![start(drill.page())];
+    let mut walks = vec![start(1, drill.page())];
     for operation in operations(stream).0 {
         let mut page = drill.page().clone();
         let written = drill.perform(&operation).unwrap();
         let lines = match operation.number {
             1 | 7 | 8 => {
-                walks.push(start(drill.page()));
+                walks.push(start(operation.number, drill.page()));
                 continue;
             }
             2 | 3 => &written[..],
@@ -76,8 +82,9 @@ pub fn walks(stream: &[u8]) -> Vec<Walk> {
     walks
 }
 
-fn start(page: &Page) -> Walk {
+fn start(origin: u8, page: &Page) -> Walk {
     Walk {
+        origin,
         start: page.clone(),
         asked: Vec::new(),
     }
@@ -92,6 +99,7 @@ fn answer(page: &mut Page, operation: &Operation) -> Vec<Asked> {
         let before = page.clone();
         let answer = answer_line(page, bytes);
         answered.push(Asked {
+            operation: operation.number,
             before,
             bytes: bytes.to_vec(),
             answer,

@@ -1,6 +1,6 @@
--- What is accepted, the source's transition allows, and the limits leave room for it (⇒). One law takes a step's list of
+-- What is accepted, a transition of `Moves` allows, and the limits leave room for it (⇒). One law takes a step's list of
 -- premises apart (`ran`); then each step has its constructor, line by line, in the source's order. Soundness is used wherever
--- the source takes something for granted (Reach.antt, Granted.antt), and for `as nat`: a reader that is listed, and a loader
+-- the source takes something for granted (Reach.antt, Granted.antt), and for `as nat`: a reader that is listed, and a holder
 -- that has a bucket, is counted. Assumes nothing.
 use Prim.Native.Nat.{ℕ, _+_, _-_, _≤_, _<_}
 use mathlib.Core.Path.{_≡_, refl, ap, _∙_}
@@ -39,17 +39,20 @@ use Rattle.editing.specs.Steps.{depositDowngradeExcLock, depositDowngradeExcLoc
 use Rattle.reading.specs.Steps.{withdrawAlloc, withdrawAllocNoRefcount, loadingIncCount, obtainLoading}
 use Rattle.reading.specs.Steps.{obtainLoadingNoRefcount, depositLoadingToShared, depositLoadingToDone, sharedIncCount}
 use Rattle.reading.specs.Steps.{sharedDecCount, sharedCheckExc, sharedCheckLoading}
+use Rattle.returning.specs.Steps.{discardClaim, claimToShared, pendingToClaim, cancelExcLockToClaim}
+use Rattle.returning.specs.Steps.{depositExcLockToDone, depositExcLockToUnmapped}
 use Rattle.steps.specs.Decide.{unknown}
 use Rattle.lock.specs.Step.{edited, lookFor, decidedOn}
 use Rattle.lock.specs.Words.{raising, listing}
 use Rattle.lock.specs.Moves.{Moves, RwLock, Field, stateWith, countOf, Elsewhere, Absent, Only, Room, answerOf}
 use Rattle.lock.specs.Moves.{pending, pending2, obtained, OneLess}
 use Rattle.lock.proofs.Exact.Laws.{handed, is-handed, unrefused, stepNo, by-number, expected, Split, split}
-use Rattle.lock.proofs.Exact.Flags.{releases, awaits, lock-flag, opened}
+use Rattle.lock.proofs.Exact.Flags.{releases, awaits, lock-flag, opened, unclaims, unawaits}
 use Rattle.lock.proofs.Keeps.Counts.{set-there, set-others}
-use Rattle.lock.proofs.Reach.{release-flags, claim-flags, writeback-stored, claim-stored, read-stored}
+use Rattle.lock.proofs.Reach.{release-flags, claim-flags, discard-flags, share-flags, pending-flags}
+use Rattle.lock.proofs.Reach.{writeback-stored, claim-stored, read-stored}
 use Rattle.lock.proofs.Reach.{lock-withdraws, alloc-withdraws, alloc-no-refcount-withdraws}
-use Rattle.lock.proofs.Exact.Granted.{Granted, granted}
+use Rattle.lock.proofs.Exact.Granted.{Granted, granted, exc-within}
 
 -- ---- a holder's own bucket, and step 6's clean
 own : (b : Bucket) → refAt (MaybeBucket.At b) (b .0) ≡ 1
@@ -135,6 +138,13 @@ module _ (h : Head) (l : List Reader) (q : Request) where
           add-ref-counts = ap (λ (cs : List Count). numberAt cs (b .0)) e ∙ there b (n - 1) below;
           elsewhere = others b (n - 1) e;
         }
+
+    -- .. at the exclusive holder's
+    exc-less : (h′ : Head) → h′ .«ref_counts» ≡ lowerIf (excBucket (h .«exc_state»)) (h .«ref_counts»)
+        → OneLess (stateWith h l) (stateWith h′ l) (excBucket (h .«exc_state»))
+    exc-less h′ e =
+        less h′ (excBucket (h .«exc_state»)) (exc-within s)
+        (λ b below. omega (arith, s .counts b below)) e
 
     -- a listed reader is counted
     counted : {x : Reader} {i : ℕ} → Split x l i → 1 ≤ numberAt (h .«ref_counts») (x .bucket .0)
@@ -291,6 +301,35 @@ module _ (h : Head) (l : List Reader) (q : Request) where
         Moves.shared-check-loading v (at .before) (at .after) step (formed .bucket) (λ f. rw f at (p .0)) (at .whole) (at .first)
         (read-stored h l s q p) (at .put (obtained (q .bucket) v)) (search)
 
+    fits25 : q .step ≡ 25 → Fits (decided h (discardClaim h))
+    fits25 step = ran (discardClaim h) (λ _. roomy 25 step absurd absurd) λ p out o.
+        Moves.discard-claim _ _ step (is-claim _ (p .0), refl) (unclaims (h .flag) (discard-flags h l s p))
+        (exc-less (discardClaim h .head) refl) (search)
+
+    fits26 : q .step ≡ 26 → Fits (decided h (claimToShared h full))
+    fits26 step =
+        ran (claimToShared h full) (λ p. roomy 26 step absurd λ _. nleb→lt capacity (length l) (p .1 .1 .0)) λ p out o.
+        Moves.claim-to-shared _ _ _ step (is-claim _ (p .0), refl) (has-bucket _ (p .1 .0))
+        (unclaims (h .flag) (share-flags h l s full p)) refl (search)
+
+    fits27 : q .step ≡ 27 → Fits (decided h (pendingToClaim h))
+    fits27 step = ran (pendingToClaim h) (λ _. roomy 27 step absurd absurd) λ p out o.
+        Moves.pending-to-claim _ _ step (is-await _ (p .0)) refl (unawaits (h .flag) (pending-flags h l s p)) (search)
+
+    fits28 : q .step ≡ 28 → Fits (decided h (cancelExcLockToClaim h))
+    fits28 step = ran (cancelExcLockToClaim h) (λ _. roomy 28 step absurd absurd) λ p out o.
+        Moves.cancel-exc-lock-to-claim _ _ _ _ step (is-pending _ (p .0)) refl refl (search)
+
+    fits29 : q .step ≡ 29 → Fits (decided h (depositExcLockToDone h q))
+    fits29 step = ran (depositExcLockToDone h q) (λ _. roomy 29 step absurd absurd) λ p out o.
+        Moves.deposit-exc-lock-to-done _ _ step (is-editing _ (p .0), refl) refl (given .editing (p .0), refl)
+        (exc-less (depositExcLockToDone h q .head) refl) (search)
+
+    fits30 : q .step ≡ 30 → Fits (decided h (depositExcLockToUnmapped h q))
+    fits30 step = ran (depositExcLockToUnmapped h q) (λ _. roomy 30 step absurd absurd) λ p out o.
+        Moves.deposit-exc-lock-to-unmapped _ _ step (is-editing _ (p .0), refl) refl (given .editing (p .0), refl)
+        (exc-less (depositExcLockToUnmapped h q .head) refl) (search)
+
     -- all of them, by number; no step has number 0
     pub told : Fits (decidedOn h l q)
     unfolding lookFor
@@ -299,5 +338,6 @@ module _ (h : Head) (l : List Reader) (q : Request) where
         (pick pastLast (λ (n : ℕ). q .step ≡ n → Fits (decided h (stepNo h l q n)))
         ((λ _. ran (unknown h) (λ p. absurd (p .0)) λ p. absurd (p .0))
         & fits1 & fits2 & fits3 & fits4 & fits5 & fits6 & fits7 & fits8 & fits9 & fits10 & fits11 & fits12
-        & fits13 & fits14 & fits15 & fits16 & fits17 & fits18 & fits19 & fits20 & fits21 & fits22 & fits23 & fits24 & tt)
+        & fits13 & fits14 & fits15 & fits16 & fits17 & fits18 & fits19 & fits20 & fits21 & fits22 & fits23 & fits24
+        & fits25 & fits26 & fits27 & fits28 & fits29 & fits30 & tt)
         (q .step) (omega (arith, formed .most)) refl)

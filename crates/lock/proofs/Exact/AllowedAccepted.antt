@@ -1,6 +1,6 @@
--- What the source's transition allows, and the limits leave room for, is accepted (⇐): the lines of the constructor make the
+-- What a transition of `Moves` allows, and the limits leave room for, is accepted (⇐): the lines of the constructor make the
 -- premises and what the step leaves compute, and its other lines say the same of `post`. Of soundness this half uses only that
--- there are four counts, and that a loader's bucket is one of them. Assumes nothing.
+-- there are four counts, and that a holder's bucket is one of them. Assumes nothing.
 use Prim.Native.Nat.{ℕ, _+_, _-_, _<_}
 use mathlib.Core.Path.{_≡_, refl, sym, ap, _∙_}
 use mathlib.Core.Bool.{Bool, true, false, cond}
@@ -12,11 +12,11 @@ use lib.ListN.{length}
 use lib.Seq.{set-append-seam}
 use Rattle.laws.proofs.Lists.{without-split}
 use Rattle.kinds.specs.declared.{Bucket.Bucket, MaybeBucket.MaybeBucket, Storage.Storage, Reader.Reader}
-use Rattle.kinds.specs.declared.{LoadingState.LoadingState}
+use Rattle.kinds.specs.declared.{ExcState.ExcState, LoadingState.LoadingState}
 use Rattle.kinds.specs.Limits.{buckets, ceiling, capacity}
 use Rattle.readers.specs.Listed.{findIn}
 use Rattle.page_record.specs.declared.Head.{Head}
-use Rattle.page_record.specs.Holders.{isLoading, validBucket}
+use Rattle.page_record.specs.Holders.{isLoading, validBucket, excBucket}
 use Rattle.page_record.specs.Pages.{numberAt, headWith}
 use Rattle.soundness.proofs.Facts.{Sound}
 use Rattle.requests.specs.declared.Request.{Request}
@@ -29,7 +29,8 @@ use Rattle.lock.specs.Moves.{Moves, Field, stateWith, countOf, Elsewhere
 use Rattle.lock.specs.Moves.{pending, pending2, OneLess}
 use Rattle.lock.proofs.Exact.Laws.{Accepts, stepNo, by-number, is-expected, find-first, is-set}
 use Rattle.lock.proofs.Exact.Flags.{is-released, is-claimed, is-awaited, done, lock-flag, is-open, unloaded}
-use Rattle.lock.proofs.Exact.Granted.{granted}
+use Rattle.lock.proofs.Exact.Flags.{is-unclaimed, is-unawaited}
+use Rattle.lock.proofs.Exact.Granted.{granted, exc-within}
 
 -- ---- a decision's parts, one by one
 record Parts (d : Decision) (l : List Reader) (h′ : Head) (l′ : List Reader) (out : Storage) : Type 0 where
@@ -87,6 +88,10 @@ module _ (h : Head) (l : List Reader) (q : Request) (h′ : Head) (l′ : List R
   loading-valid m e =
       let t : T (isLoading (h .«loading_state»)) = rw e tt in
       rw e at (granted h (s .head) .loading t .1)
+
+  -- .. and so is the exclusive holder's
+  exc-valid : (e : ExcState) → h .«exc_state» ≡ e → T (validBucket (excBucket e))
+  exc-valid e is = rw is at (exc-within s)
 
   -- 20 to 22: the reader x leaves
   leaves : (x : Reader) (n : ℕ) (before after : List Reader)
@@ -175,3 +180,22 @@ module _ (h : Head) (l : List Reader) (q : Request) (h′ : Head) (l′ : List R
       let x = pending2 (q .bucket) in
       let list = set-append-seam before x after (obtained (q .bucket) value) ∙ sym add in
       step-is 24 step (rw (unloaded (h .flag) require, remove, find-first x before after first, bird) (took (search)))
+  takes (Moves.discard-claim bucket any step remove arms less only) room =
+      let flag = is-unclaimed (h .flag) (h′ .flag) arms in
+      let counts = own-less bucket (exc-valid (ExcState.Claim bucket any) (remove .0)) less in
+      step-is 25 step (rw (remove .0) (took (search)))
+  takes (Moves.claim-to-shared bucket value some step remove require arms add only) room =
+      let flag = is-unclaimed (h .flag) (h′ .flag) arms in
+      let free : length l < capacity = room .free (rw step tt) in
+      step-is 26 step (rw (remove .0, require, lt-leb capacity (length l) free) (took (search)))
+  takes (Moves.pending-to-claim bucket value step remove add arms only) room =
+      let flag = is-unawaited (h .flag) (h′ .flag) arms in
+      step-is 27 step (rw remove (took (search)))
+  takes (Moves.cancel-exc-lock-to-claim bucket visited clean value step remove add update only) room =
+      step-is 28 step (rw remove (took (search)))
+  takes (Moves.deposit-exc-lock-to-done bucket clean step remove update deposit less only) room =
+      let counts = own-less bucket (exc-valid (ExcState.Obtained bucket clean) (remove .0)) less in
+      step-is 29 step (rw (remove .0) (took (search)))
+  takes (Moves.deposit-exc-lock-to-unmapped bucket clean step remove update deposit less only) room =
+      let counts = own-less bucket (exc-valid (ExcState.Obtained bucket clean) (remove .0)) less in
+      step-is 30 step (rw (remove .0) (took (search)))

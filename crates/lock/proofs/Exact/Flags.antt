@@ -1,17 +1,28 @@
 -- The flags of the steps, in the relation's words and as tests: from the relation to the test and to the flag that follows
--- (`is-released`, `is-claimed`, `is-awaited`, `done`, `lock-flag`, `is-open`, `unloaded`), and back where the other half asks
--- for it (`releases`, `awaits`, `opened`). Assumes nothing.
+-- (`is-released`, `is-claimed`, `is-awaited`, `done`, `lock-flag`, `is-open`, `unloaded`, `is-unclaimed`, `is-unawaited`), and back
+-- where the other half asks for it (`releases`, `awaits`, `opened`, `unclaims`, `unawaits`). Assumes nothing.
 use mathlib.Core.Path.{_≡_, refl, sym}
 use mathlib.Core.Logic.{_⊎_, inl, inr, _≢_}
 use mathlib.Core.Bool.{Bool, true, false, cond}
 use lib.Dec.{T}
 use Rattle.kinds.specs.declared.Flag.{Flag}
 use Rattle.kinds.specs.Flags.{claimable, writebackDone, openToReaders, notLoading, released, claimed, awaited, lockFlag}
+use Rattle.kinds.specs.Flags.{unclaimed, unawaited}
 
 -- ---- the arms of `match pre.flag`
 -- an arm: the flag is x, and becomes y
 abbrev pub Turns : Flag → Flag → Flag → Flag → Type 0
 Turns before after x y = (before ≡ x) × (after ≡ y)
+
+-- two arms, and the flag that follows in each: from the relation to that flag, and back
+module _ (next : Flag → Flag) (x y f : Flag) where
+  turned : (g : Flag) → Turns f g x (next x) ⊎ Turns f g y (next y) → next f ≡ g
+  turned g (inl m) = rw (m .0) (sym (m .1))
+  turned g (inr m) = rw (m .0) (sym (m .1))
+
+  turns : (f ≡ x) ⊎ (f ≡ y) → Turns f (next f) x (next x) ⊎ Turns f (next f) y (next y)
+  turns (inl e) = inl (e, rw e)
+  turns (inr e) = inr (e, rw e)
 
 -- 2
 abbrev pub Releases : Flag → Flag → Type 0
@@ -44,12 +55,30 @@ abbrev pub Awaits : Flag → Flag → Type 0
 Awaits f g = Turns f g Flag.Claimed Flag.PendingExcLock ⊎ Turns f g Flag.WritebackAndClaimed Flag.WritebackAndPendingExcLock
 
 pub is-awaited : (f g : Flag) → Awaits f g → awaited f ≡ g
-is-awaited f g (inl m) = rw (m .0) (sym (m .1))
-is-awaited f g (inr m) = rw (m .0) (sym (m .1))
+is-awaited f g = turned awaited Flag.Claimed Flag.WritebackAndClaimed f g
 
 pub awaits : (f : Flag) → (f ≡ Flag.Claimed) ⊎ (f ≡ Flag.WritebackAndClaimed) → Awaits f (awaited f)
-awaits f (inl e) = inl (e, rw e)
-awaits f (inr e) = inr (e, rw e)
+awaits f = turns awaited Flag.Claimed Flag.WritebackAndClaimed f
+
+-- 25 and 26
+abbrev pub Unclaims : Flag → Flag → Type 0
+Unclaims f g = Turns f g Flag.Claimed Flag.Available ⊎ Turns f g Flag.WritebackAndClaimed Flag.Writeback
+
+pub is-unclaimed : (f g : Flag) → Unclaims f g → unclaimed f ≡ g
+is-unclaimed f g = turned unclaimed Flag.Claimed Flag.WritebackAndClaimed f g
+
+pub unclaims : (f : Flag) → (f ≡ Flag.Claimed) ⊎ (f ≡ Flag.WritebackAndClaimed) → Unclaims f (unclaimed f)
+unclaims f = turns unclaimed Flag.Claimed Flag.WritebackAndClaimed f
+
+-- 27
+abbrev pub Unawaits : Flag → Flag → Type 0
+Unawaits f g = Turns f g Flag.PendingExcLock Flag.Claimed ⊎ Turns f g Flag.WritebackAndPendingExcLock Flag.WritebackAndClaimed
+
+pub is-unawaited : (f g : Flag) → Unawaits f g → unawaited f ≡ g
+is-unawaited f g = turned unawaited Flag.PendingExcLock Flag.WritebackAndPendingExcLock f g
+
+pub unawaits : (f : Flag) → (f ≡ Flag.PendingExcLock) ⊎ (f ≡ Flag.WritebackAndPendingExcLock) → Unawaits f (unawaited f)
+unawaits f = turns unawaited Flag.PendingExcLock Flag.WritebackAndPendingExcLock f
 
 -- ---- the other steps that ask for a flag
 -- 6

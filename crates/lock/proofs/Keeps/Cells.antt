@@ -1,18 +1,17 @@
 -- How the table of steps by shapes is made and read. A cell says of one step that what it leaves is sound where its premises
 -- hold; where one fails nothing changes (`settle`). A row lists the steps that may be accepted with their cells, and that
--- every other step fails one of its premises is computed (`below`, `below-at`); `cell-of` then gives the cell of any number.
+-- every other step fails one of its premises is computed (`others`); `cell-of` then gives the cell of any number.
 -- Assumes nothing.
-use Prim.Native.Nat.{ℕ, zero, suc, _+_, _<_}
+use Prim.Native.Nat.{ℕ}
 use mathlib.Core.Path.{_≡_, refl, sym, subst}
-use mathlib.Core.Logic.{_≢_}
-use mathlib.Core.Bool.{Bool, true, false, cond, _&&_, _||_}
+use mathlib.Core.Bool.{Bool, true, false, cond, _||_}
 use mathlib.Core.List.{List, [], _∷_}
-use native.Mathlib.Omega.{arith}
-use borrow.Author.Tests.{ltb-true, ltb-false, eqb-true, eqb-false}
+use borrow.Author.Tests.{ltb-true, ltb-false, eqb-true}
 use lib.Dec.{T, eqb, ltb}
 use lib.ListN.{getD, List·getD-eq-default}
 use Rattle.laws.specs.Lists.{among}
-use Rattle.laws.proofs.Tests.{is-true, halves}
+use Rattle.laws.proofs.Tests.{is-true}
+use Rattle.laws.proofs.Pick.{eachBelow, each-below}
 use Rattle.kinds.specs.declared.Reader.{Reader}
 use Rattle.readers.specs.declared.Found.{Found}
 use Rattle.readers.specs.Listed.{findIn}
@@ -21,7 +20,7 @@ use Rattle.page_record.specs.declared.Head.{Head}
 use Rattle.soundness.proofs.Facts.{Sound}
 use Rattle.requests.specs.declared.{Refusal.Refusal, Verdict.Verdict, Request.Request}
 use Rattle.requests.specs.Premises.{verdict, Passes}
-use Rattle.requests.specs.Requests.{lastStep}
+use Rattle.requests.specs.Requests.{pastLast}
 use Rattle.requests.proofs.Verdicts.{fails, fails-not}
 use Rattle.heads.specs.declared.Decision.{Decision}
 use Rattle.heads.specs.Decisions.{Step, settled, isFound, placeOf}
@@ -64,27 +63,7 @@ unfolding lookFor
 finds l Sought.Nobody = tt
 finds l (Sought.One x) = found-first l x
 
--- ---- tests of numbers
--- every number below k passes
-abbrev pub below : (ℕ → Bool) → ℕ → Bool
-below f zero = true
-below f (suc k) = f k && below f k
-
-pub below-at : (f : ℕ → Bool) (k n : ℕ) → T (below f k) → n < k → T (f n)
-below-at f zero n t h = absurd (omega arith)
-below-at f (suc k) n t h =
-    let u = halves (f k) (below f k) t in
-    go (eqb n k) refl (u .0) (below-at f k n (u .1))
-  where
-    go : (b : Bool) → eqb n k ≡ b → T (f k) → (n < k → T (f n)) → T (f n)
-    go true e u rest = rw (eqb-true n k e) u
-    go false e u rest = let d : n ≢ k = eqb-false n k e in rest (omega arith)
-
 -- ---- a row
--- the first number that names no step
-abbrev pub pastLast : ℕ
-pastLast = lastStep + 1
-
 module _ (l : List Reader) (q : Request) (found : Found) (full : Bool) where
   -- the step of a number
   abbrev pub numbered : Head → ℕ → Step
@@ -102,7 +81,7 @@ module _ (l : List Reader) (q : Request) (found : Found) (full : Bool) where
   pub record Row (h : Head) : Type 0 where
     pub numbers : List ℕ
     pub cells : Cells h numbers
-    pub others : T (below (λ n. among numbers n || fails (numbered h n .premises)) pastLast)
+    pub others : T (eachBelow (λ n. among numbers n || fails (numbered h n .premises)) pastLast)
 
   cell-among : (h : Head) (n : ℕ) (ns : List ℕ) → Cells h ns → T (among ns n) → Cell h n
   cell-among h n [] c t = absurd t
@@ -122,7 +101,7 @@ module _ (l : List Reader) (q : Request) (found : Found) (full : Bool) where
       go : (b : Bool) → ltb n pastLast ≡ b → Cell h n
       go true e =
           either (among (r .numbers) n) refl
-          (below-at (λ n. among (r .numbers) n || fails (numbered h n .premises)) pastLast n (r .others) (ltb-true n pastLast e))
+          (each-below (λ n. among (r .numbers) n || fails (numbered h n .premises)) pastLast n (r .others) (ltb-true n pastLast e))
       go false e =
           let u : numbered h n ≡ unknown h = List·getD-eq-default (steps h q found full) (unknown h) (ltb-false n pastLast e) in
           λ _ p. absurd (subst (λ (st : Step). Passes (st .premises)) u p .0)

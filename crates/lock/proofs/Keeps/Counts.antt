@@ -1,18 +1,21 @@
 -- Rule 5 apart from who holds what: the counts agree with a number of references for each bucket. They still do where these
--- stay the same, where one comes and its count is raised, and where one goes and its count is lowered. Assumes nothing.
+-- stay the same, where one comes and its count is raised, and where one goes and its count is lowered; or where a holder goes, and
+-- one is taken off its bucket, if it has one. Assumes nothing.
 use Prim.Native.Nat.{ℕ, _+_, _-_, _≤_, _<_}
 use mathlib.Core.Path.{_≡_, refl, sym, ap}
 use mathlib.Core.Bool.{Bool, true, false, cond}
 use mathlib.Core.List.{List}
 use native.Mathlib.Omega.{arith}
 use borrow.Author.Tests.{eqb-true, eqb-false, eq-eqb}
-use lib.Dec.{eqb}
+use lib.Dec.{T, eqb, ltb→lt}
 use lib.ListN.{length, length-set}
 use lib.Seq.{getD-set-same, getD-set-other}
-use Rattle.kinds.specs.declared.Count.{Count}
+use Rattle.kinds.specs.declared.{Count.Count, MaybeBucket.MaybeBucket}
 use Rattle.kinds.specs.Limits.{buckets, ceiling}
+use Rattle.page_record.specs.Holders.{validBucket}
 use Rattle.page_record.specs.Pages.{numberAt}
-use Rattle.heads.specs.Setters.{withNumber, raise, lower}
+use Rattle.page_record.specs.References.{refAt}
+use Rattle.heads.specs.Setters.{withNumber, raise, lower, lowerIf}
 
 -- 1 at the bucket a, 0 elsewhere
 abbrev pub one : ℕ → ℕ → ℕ
@@ -80,3 +83,9 @@ module _ {cs : List Count} {refs : ℕ → ℕ} (c : Counts cs refs) {refs′ : 
           few = λ b. omega (arith, c .few b, number-lower cs a b j some);
           equal = λ b i. omega (arith, c .equal b i, e b, number-lower cs a b j some);
         }
+
+-- a holder with bucket m goes
+pub left-counts : {cs : List Count} {refs refs′ : ℕ → ℕ} → Counts cs refs → (m : MaybeBucket) → T (validBucket m)
+    → ((b : ℕ) → refs′ b + refAt m b ≡ refs b) → Counts (lowerIf m cs) refs′
+left-counts c MaybeBucket.None ok e = same-counts c (λ b. omega (arith, e b))
+left-counts c (MaybeBucket.At a) ok e = lowered-counts c (a .0) (ltb→lt (a .0) buckets ok) e

@@ -1,7 +1,7 @@
 -- Every step from every sound shape, as one table: a row is a shape, with the steps that may be accepted there and where each
 -- leads. `keeps` reads it: what is decided on a sound head and list leaves them sound. Assumes nothing.
 use Prim.Native.Nat.{ℕ, _+_, _≤_, _<_, zero-le}
-use mathlib.Core.Path.{_≡_}
+use mathlib.Core.Path.{_≡_, refl}
 use mathlib.Core.Logic.{_≢_}
 use mathlib.Core.Bool.{Bool, true, false, not, _&&_}
 use mathlib.Core.List.{List, [], _∷_, _++_}
@@ -25,18 +25,18 @@ use Rattle.page_record.specs.Holders.{holds, validBucket}
 use Rattle.page_record.specs.Pages.{numberAt}
 use Rattle.page_record.specs.References.{refAt}
 use Rattle.rules.specs.Rules.{sharedStateValid}
-use Rattle.soundness.proofs.Facts.{Sound}
+use Rattle.soundness.proofs.Facts.{headSound, Sound}
 use Rattle.soundness.proofs.Shapes.{Shape, unmapped, waiting, counted, loading, available, claimed, writeback}
 use Rattle.soundness.proofs.Shapes.{writebackClaimed, writebackAwait, await, pending, editing, headAt, valid, shaped}
 use Rattle.soundness.proofs.Shapes.{by-shape}
-use Rattle.soundness.proofs.Known.{hold-iff, valid-phase, found-valid, none-at, closed-passing}
+use Rattle.soundness.proofs.Known.{holding, hold-iff, valid-phase, found-valid, none-at, closed-passing}
 use Rattle.requests.specs.declared.Request.{Request}
 use Rattle.heads.specs.Setters.{raise, lower}
 use Rattle.heads.specs.Decisions.{placeOf, reader}
 use Rattle.steps.specs.Decide.{decideOf, soughtOf}
 use Rattle.lock.specs.Step.{lookFor, decidedOn}
-use Rattle.lock.proofs.Keeps.Counts.{one, Counts, same-counts, raised-counts, lowered-counts}
-use Rattle.lock.proofs.Keeps.Sounds.{Stay, stays-at, stays, quiet, count-without, counts-of, sound-of, kept}
+use Rattle.lock.proofs.Keeps.Counts.{one, Counts, same-counts, raised-counts, left-counts}
+use Rattle.lock.proofs.Keeps.Sounds.{Stay, stays-at, stays, quiet, refsOf, count-without, counts-of, sound-of, kept}
 use Rattle.lock.proofs.Keeps.Sounds.{kept-quiet, pushed, removed}
 use Rattle.lock.proofs.Keeps.Cells.{Kept, settle, finds, numbered, Cells, Row, cell-of}
 use Rattle.lock.proofs.Keeps.Shared.{readerSteps, reader-cells}
@@ -88,6 +88,13 @@ module _ (m : MaybeBucket) (n : Visited) (clean : Bool) (v : ℕ) (cs : List Cou
       (every-both (sharedStateValid (headAt (pending m n clean v) cs)) (λ r. not (isAt (n .0) r)) l (s .readers) away))
       (s .room) (counts-of s)
 
+-- 28: with a claim alone, whoever is past the first check may stay
+reopens : (m : MaybeBucket) (n : Visited) (clean : Bool) (v : ℕ) (cs : List Count)
+    → Stay (headAt (pending m n clean v) cs) (headAt (claimed m v) cs)
+reopens m n clean v cs =
+    stays (headAt (pending m n clean v) cs) (headAt (claimed m v) cs)
+    (λ b k. record { pass = λ t. tt; hold = λ u t x y. (x, y) })
+
 -- 16 and 17: with the loader gone, whoever is past the first check may stay
 opens : (m : MaybeBucket) (v : ℕ) (cs cs′ : List Count) → Stay (headAt (loading m) cs) (headAt (available v) cs′)
 opens m v cs cs′ =
@@ -112,14 +119,20 @@ module _ (l : List Reader) (q : Request) (inside : q .bucket .0 < buckets) (foun
   gone : Holder → (b : ℕ) → countAt b (without (placeOf found) l) + one (q .bucket .0) b ≡ countAt b l
   gone first b = count-without l (reader (Phase.Obtained (q .value)) (q .bucket)) (placeOf found) first b
 
-  -- 9 and 16: a holder at b puts the value in, and becomes a reader of it
-  gives : {h : Head} {cs : List Count} (b : Bucket) → Sound h l → Stay h (headAt (available (q .value)) cs)
-      → T (ltb (b .0) buckets) → T (not full) → Counts cs (λ x. countAt x l + one (b .0) x)
-      → Sound (headAt (available (q .value)) cs) (l ++ reader (Phase.Obtained (q .value)) b ∷ [])
-  gives {cs = cs} b s stay ok free c =
-      let r = reader (Phase.Obtained (q .value)) b in
-      pushed s (shaped (available (q .value)) cs tt) stay r (simp and-iff (ok, (((eqb-refl (q .value), tt), tt), tt))) (room free)
-      (same-counts c (λ x. omega (arith, tally-push (isAt x) l r)))
+  -- 9, 16 and 26: a holder at b becomes a reader of the value that is in; its reference goes over, and no count changes
+  gives : {h h′ : Head} (v : ℕ) (b : Bucket) → Sound h l → T (headSound h′) → Stay h h′
+      → T (ltb (b .0) buckets) → T (holding h′ (b .0) v) → T (not full)
+      → h′ .«ref_counts» ≡ h .«ref_counts» → ((x : ℕ) → refsOf h l x ≡ refsOf h′ l x + one (b .0) x)
+      → Sound h′ (l ++ reader (Phase.Obtained v) b ∷ [])
+  gives {h} {h′} v b s rules stay ok reads free same over =
+      let r = reader (Phase.Obtained v) b in
+      let counts : Counts (h′ .«ref_counts») (refsOf h l) = rw same (counts-of s) in
+      pushed s rules stay r (both (ltb (b .0) buckets) (holding h′ (b .0) v) ok reads) (room free)
+      (same-counts counts (λ x. omega (arith, over x, tally-push (isAt x) l r)))
+
+  -- .. under Available or Writeback: it may hold the value
+  own-value : (v : ℕ) → T (eqb v v && true && true && true)
+  own-value v = simp and-iff (((eqb-refl v, tt), tt), tt)
 
   -- 13 and 18: one more at the request's bucket
   more : {cs : List Count} {refs refs′ : ℕ → ℕ} → Counts cs refs → T (ltb (numberAt cs (q .bucket .0)) ceiling)
@@ -170,10 +183,11 @@ module _ (l : List Reader) (q : Request) (inside : q .bucket .0 < buckets) (foun
     numbers = 16 ∷ 17 ∷ readerSteps;
     cells =
         (λ _ p.
-        gives b s (opens (MaybeBucket.At b) (q .value) cs cs) ok (p .1 .1 .0) (same-counts (counts-of s) (λ x. omega arith)))
+        gives (q .value) b s (shaped (available (q .value)) cs tt) (opens (MaybeBucket.At b) (q .value) cs cs) ok
+        (own-value (q .value)) (p .1 .1 .0) refl (λ x. omega arith))
         & (λ _ _.
         kept s (shaped (available (q .value)) (lower (b .0) cs) tt) (opens (MaybeBucket.At b) (q .value) cs (lower (b .0) cs))
-        (lowered-counts (counts-of s) (b .0) (ltb→lt (b .0) buckets ok) (λ x. omega arith)))
+        (left-counts (counts-of s) (MaybeBucket.At b) ok (λ x. omega arith)))
         & any s;
     others = tt;
   }
@@ -191,10 +205,26 @@ module _ (l : List Reader) (q : Request) (inside : q .bucket .0 < buckets) (foun
         & any s;
     others = tt;
   }
-  -- 5 to await
-  table (claimed m v) cs s ok = record {
-    numbers = 5 ∷ readerSteps;
-    cells = (λ _ _. kept s (shaped (await m v) cs ok) (λ r t. t) (counts-of s)) & any s;
+  -- 5 to await, 25 to available
+  table (claimed MaybeBucket.None v) cs s ok = record {
+    numbers = 5 ∷ 25 ∷ readerSteps;
+    cells =
+        (λ _ _. kept s (shaped (await MaybeBucket.None v) cs ok) (λ r t. t) (counts-of s))
+        & (λ _ _. kept s (shaped (available v) cs tt) (λ r t. t) (counts-of s))
+        & any s;
+    others = tt;
+  }
+  -- 5 to await, 25 and 26 to available
+  table (claimed (MaybeBucket.At b) v) cs s ok = record {
+    numbers = 5 ∷ 25 ∷ 26 ∷ readerSteps;
+    cells =
+        (λ _ _. kept s (shaped (await (MaybeBucket.At b) v) cs ok) (λ r t. t) (counts-of s))
+        & (λ _ _.
+        kept s (shaped (available v) (lower (b .0) cs) tt) (λ r t. t)
+        (left-counts (counts-of s) (MaybeBucket.At b) ok (λ x. omega arith)))
+        & (λ _ p.
+        gives v b s (shaped (available v) cs tt) (λ r t. t) ok (own-value v) (p .1 .1 .0) refl (λ x. omega arith))
+        & any s;
     others = tt;
   }
   -- 2 to available, 3 and 4 to writebackClaimed
@@ -211,61 +241,92 @@ module _ (l : List Reader) (q : Request) (inside : q .bucket .0 < buckets) (foun
         & any s;
     others = tt;
   }
-  -- 2 to claimed, 5 to writebackAwait
-  table (writebackClaimed m v) cs s ok = record {
-    numbers = 2 ∷ 5 ∷ readerSteps;
+  -- 2 to claimed, 5 to writebackAwait, 25 to writeback
+  table (writebackClaimed MaybeBucket.None v) cs s ok = record {
+    numbers = 2 ∷ 5 ∷ 25 ∷ readerSteps;
     cells =
-        (λ _ _. kept s (shaped (claimed m v) cs ok) (λ r t. t) (counts-of s))
-        & (λ _ _. kept s (shaped (writebackAwait m v) cs ok) (λ r t. t) (counts-of s))
+        (λ _ _. kept s (shaped (claimed MaybeBucket.None v) cs ok) (λ r t. t) (counts-of s))
+        & (λ _ _. kept s (shaped (writebackAwait MaybeBucket.None v) cs ok) (λ r t. t) (counts-of s))
+        & (λ _ _. kept s (shaped (writeback v) cs tt) (λ r t. t) (counts-of s))
         & any s;
     others = tt;
   }
-  -- 2 to await
-  table (writebackAwait m v) cs s ok = record {
-    numbers = 2 ∷ readerSteps;
-    cells = (λ _ _. kept s (shaped (await m v) cs ok) (λ r t. t) (counts-of s)) & any s;
+  -- 2 to claimed, 5 to writebackAwait, 25 and 26 to writeback
+  table (writebackClaimed (MaybeBucket.At b) v) cs s ok = record {
+    numbers = 2 ∷ 5 ∷ 25 ∷ 26 ∷ readerSteps;
+    cells =
+        (λ _ _. kept s (shaped (claimed (MaybeBucket.At b) v) cs ok) (λ r t. t) (counts-of s))
+        & (λ _ _. kept s (shaped (writebackAwait (MaybeBucket.At b) v) cs ok) (λ r t. t) (counts-of s))
+        & (λ _ _.
+        kept s (shaped (writeback v) (lower (b .0) cs) tt) (λ r t. t)
+        (left-counts (counts-of s) (MaybeBucket.At b) ok (λ x. omega arith)))
+        & (λ _ p.
+        gives v b s (shaped (writeback v) cs tt) (λ r t. t) ok (own-value v) (p .1 .1 .0) refl (λ x. omega arith))
+        & any s;
     others = tt;
   }
-  -- 6 to pending
+  -- 2 to await, 27 to writebackClaimed
+  table (writebackAwait m v) cs s ok = record {
+    numbers = 2 ∷ 27 ∷ readerSteps;
+    cells =
+        (λ _ _. kept s (shaped (await m v) cs ok) (λ r t. t) (counts-of s))
+        & (λ _ _. kept s (shaped (writebackClaimed m v) cs ok) (λ r t. t) (counts-of s))
+        & any s;
+    others = tt;
+  }
+  -- 6 to pending, 27 to claimed
   table (await m v) cs s ok = record {
-    numbers = 6 ∷ readerSteps;
+    numbers = 6 ∷ 27 ∷ readerSteps;
     cells =
         (λ _ _.
         let clean = eqb (q .clean) 1 in
         kept s (shaped (pending m (record { 0 = 0 }) clean v) cs ok) (locks m v clean cs) (counts-of s))
+        & (λ _ _. kept s (shaped (claimed m v) cs ok) (λ r t. t) (counts-of s))
         & any s;
     others = tt;
   }
-  -- 7 to pending, 8 to editing
+  -- 7 to pending, 8 to editing, 28 to claimed
   table (pending m n clean v) cs s ok = record {
-    numbers = 7 ∷ 8 ∷ readerSteps;
+    numbers = 7 ∷ 8 ∷ 28 ∷ readerSteps;
     cells =
         (λ _ p.
         visits m n clean v cs s ok (ltb→lt (n .0) buckets (p .1 .0)) (eqb→eq (numberAt cs (n .0)) (refAt m (n .0)) (p .1 .1 .0)))
         & (λ _ p.
         kept-quiet s (shaped (editing m clean) cs (halves (leb (n .0) buckets) (validBucket m) ok .1))
         (λ b. closed-passing (headAt (pending m n clean v) cs) b (p .1 .0)) (counts-of s))
+        & (λ _ _.
+        kept s (shaped (claimed m v) cs (halves (leb (n .0) buckets) (validBucket m) ok .1)) (reopens m n clean v cs)
+        (counts-of s))
         & any s;
     others = elim clean [ true ↦ tt | false ↦ tt ];
   }
-  -- 18 to editing with a bucket
+  -- 18 to editing with a bucket, 29 to available, 30 to unmapped
   table (editing MaybeBucket.None clean) cs s ok = record {
-    numbers = 18 ∷ readerSteps;
+    numbers = 18 ∷ 29 ∷ 30 ∷ readerSteps;
     cells =
         (λ _ p.
         kept s (shaped (editing (MaybeBucket.At (q .bucket)) clean) (raise (q .bucket .0) cs) near) (λ r t. t)
         (more (counts-of s) (p .1 .1 .0) (λ b. omega arith)))
+        & (λ _ _. kept-quiet s (shaped (available (q .value)) cs tt) (λ b k t. t) (counts-of s))
+        & (λ _ _. kept-quiet s (shaped (unmapped (q .value)) cs tt) (λ b k t. t) (counts-of s))
         & any s;
     others = elim clean [ true ↦ tt | false ↦ tt ];
   }
-  -- 9 to available, 10 to claimed
+  -- 9 to available, 10 to claimed, 29 to available, 30 to unmapped
   table (editing (MaybeBucket.At b) clean) cs s ok = record {
-    numbers = 9 ∷ 10 ∷ readerSteps;
+    numbers = 9 ∷ 10 ∷ 29 ∷ 30 ∷ readerSteps;
     cells =
         (λ _ p.
-        gives b s (quiet (headAt (editing (MaybeBucket.At b) clean) cs) (headAt (available (q .value)) cs) (λ b k t. t))
-        ok (p .1 .1 .0) (same-counts (counts-of s) (λ x. omega arith)))
+        gives (q .value) b s (shaped (available (q .value)) cs tt)
+        (quiet (headAt (editing (MaybeBucket.At b) clean) cs) (headAt (available (q .value)) cs) (λ b k t. t))
+        ok (own-value (q .value)) (p .1 .1 .0) refl (λ x. omega arith))
         & (λ _ _. kept-quiet s (shaped (claimed (MaybeBucket.At b) (q .value)) cs ok) (λ b k t. t) (counts-of s))
+        & (λ _ _.
+        kept-quiet s (shaped (available (q .value)) (lower (b .0) cs) tt) (λ b k t. t)
+        (left-counts (counts-of s) (MaybeBucket.At b) ok (λ x. omega arith)))
+        & (λ _ _.
+        kept-quiet s (shaped (unmapped (q .value)) (lower (b .0) cs) tt) (λ b k t. t)
+        (left-counts (counts-of s) (MaybeBucket.At b) ok (λ x. omega arith)))
         & any s;
     others = elim clean [ true ↦ tt | false ↦ tt ];
   }

@@ -233,6 +233,24 @@ module _ (p : Page) (within : Bounds p) (b : Bucket) (clean value : ℕ) where
   unfolding lookFor soughtOf
   tabled24 = rw (loading-lets (p .flag), finds Phase.Pending2) (flag-holder (flagLets 24 (p .flag)) (reads Phase.Pending2))
 
+  tabled25 : Tabled 25
+  tabled25 = flag-holder true (isClaim (p .«exc_state»))
+
+  tabled26 : Tabled 26
+  tabled26 = rw is-full (premised-tabled true (isClaim (p .«exc_state»)) exc-bucket true true true full)
+
+  tabled27 : Tabled 27
+  tabled27 = flag-holder true (isAwait (p .«exc_state»))
+
+  tabled28 : Tabled 28
+  tabled28 = flag-holder true (isPending (p .«exc_state»))
+
+  tabled29 : Tabled 29
+  tabled29 = flag-holder true (isEditing (p .«exc_state»))
+
+  tabled30 : Tabled 30
+  tabled30 = flag-holder true (isEditing (p .«exc_state»))
+
   -- no step has number 0
   entries : Below pastLast (λ n. T (isStep n) → Tabled n)
   entries =
@@ -241,6 +259,7 @@ module _ (p : Page) (within : Bounds p) (b : Bucket) (clean value : ℕ) where
       & (λ _. tabled7) & (λ _. tabled8) & (λ _. tabled9) & (λ _. tabled10) & (λ _. tabled11) & (λ _. tabled12)
       & (λ _. tabled13) & (λ _. tabled14) & (λ _. tabled15) & (λ _. tabled16) & (λ _. tabled17) & (λ _. tabled18)
       & (λ _. tabled19) & (λ _. tabled20) & (λ _. tabled21) & (λ _. tabled22) & (λ _. tabled23) & (λ _. tabled24)
+      & (λ _. tabled25) & (λ _. tabled26) & (λ _. tabled27) & (λ _. tabled28) & (λ _. tabled29) & (λ _. tabled30)
       & tt
 
 -- the step that a request names

@@ -14,9 +14,13 @@ takes-value-spec =
     (λ c. simp (c .match .keys4))
     (λ c. simp (c .match .keys5))
     (λ c. simp (c .match .keys6))
+    (λ c. simp (c .match .keys7))
+    (λ c. simp (c .match .keys8))
     (λ c.
     let other = c .match .rest in
     simp (
+      ne-eqb _ _ (other .0 .0 .0 .0 .0 .0 .0 .1),
+      ne-eqb _ _ (other .0 .0 .0 .0 .0 .0 .1),
       ne-eqb _ _ (other .0 .0 .0 .0 .0 .1),
       ne-eqb _ _ (other .0 .0 .0 .0 .1),
       ne-eqb _ _ (other .0 .0 .0 .1),
