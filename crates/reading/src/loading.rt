@@ -1,6 +1,6 @@
-// The loader, the first to have an unmapped page: steps 11 to 17. It is handed out to it to be filled (11, or 12 where it
-// wants no bucket). It gets a bucket (13) and then lets readers pass their first check (14), or does so with no bucket (15).
-// It puts the page in and goes on as a reader, which needs a bucket (16), or leaves (17).
+// The loader: steps 11 to 17. An unmapped page is handed out to it to be filled (11, or 12 where it wants no bucket). It gets a
+// bucket (13) and then lets readers pass their first check (14), or does so with no bucket (15). It puts the page in and goes on
+// as a reader, which needs a bucket (16), or leaves (17).
 ghost use mathlib.Core.Path.{_≡_};
 ghost use Rattle.heads.specs.Decisions.{decided};
 ghost use Rattle.reading.specs.Steps.{withdrawAlloc, withdrawAllocNoRefcount, loadingIncCount, obtainLoading};
