@@ -1,6 +1,7 @@
 -- `readers::find` meets its contract. The loop's invariant: a search of the whole list answers as one from i over what is left.
 -- A turn is one clause of `findFrom` (`clause`), and goes one of three ways: the reader there is equal (`hit`), or it is another
--- by its phase or by its bucket and is passed over (`other-phase`, `other-bucket`). Assumes nothing.
+-- by its phase or by its bucket and is passed over (`other-phase`, `other-bucket`). Where nothing is left, no reader is equal
+-- (`past-length`, `past-array`). Assumes nothing.
 use Prim.Native.Nat.{ℕ, _+_, _-_, _≤_, _<_}
 use mathlib.Core.Path.{_≡_, refl, _∙_, sym}
 use mathlib.Core.Logic.{⊎-elim}
