@@ -81,7 +81,7 @@ pub fn empty() -> Readers
     Readers { items, len: 0 }
 }
 
-// The place of the first reader equal to `want`. The bucket is compared first, the phase with its value only where it agrees.
+// The place of the first reader equal to `want`. The bucket is compared first, the phase with its value only where that agrees.
 pub fn find(rs: Readers, want: Reader) -> Found
     ensures { λ r. ⌜ r ≡ findIn (live rs) want ⌝ }
 {
