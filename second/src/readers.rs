@@ -33,6 +33,15 @@ impl Readers {
         &self.entries[self.end()..]
     }
 
+    /// The place of the first equal reader, if one is listed. Buckets are
+    /// compared first, and the rest only where they agree.
+    pub fn find(&self, reader: SharedState) -> Option<usize> {
+        let bucket = reader.bucket();
+        self.listed()
+            .iter()
+            .position(|&listed| listed.bucket() == bucket && listed == reader)
+    }
+
     /// Puts a reader at the end of a list that has room.
     pub fn push(&mut self, reader: SharedState) {
         self.entries[self.end()] = reader;

@@ -481,11 +481,7 @@ fn claimed(flag: Flag) -> Result<Flag, Refusal> {
 
 /// The place of the first equal reader.
 fn find(page: &Page, reader: SharedState) -> Result<usize, Refusal> {
-    page.shared_state
-        .listed()
-        .iter()
-        .position(|&listed| listed == reader)
-        .ok_or(Refusal::NoHolder)
+    page.shared_state.find(reader).ok_or(Refusal::NoHolder)
 }
 
 /// The bucket of a claim, if it has one, and its value.

@@ -1,6 +1,7 @@
-//! The list of readers: a new one at the end, a gap closed, blanks behind.
+//! The list of readers: a new one at the end, the first equal one found, a gap
+//! closed, blanks behind.
 
-use second::kinds::{BucketId, SharedState};
+use second::kinds::{BucketId, SharedState, StoredType};
 use second::readers::Readers;
 
 fn pending(bucket: u8) -> SharedState {
@@ -9,10 +10,33 @@ fn pending(bucket: u8) -> SharedState {
     }
 }
 
+fn pending2(bucket: u8) -> SharedState {
+    SharedState::Pending2 {
+        bucket: BucketId(bucket),
+    }
+}
+
+fn obtained(bucket: u8, value: StoredType) -> SharedState {
+    SharedState::Obtained {
+        bucket: BucketId(bucket),
+        value,
+    }
+}
+
+/// One reader of each phase, all at this bucket.
+fn each_phase(bucket: u8) -> [SharedState; 3] {
+    [pending(bucket), pending2(bucket), obtained(bucket, 5)]
+}
+
 fn list(buckets: &[u8]) -> Readers {
+    let entries: Vec<_> = buckets.iter().map(|&bucket| pending(bucket)).collect();
+    list_of(&entries)
+}
+
+fn list_of(entries: &[SharedState]) -> Readers {
     let mut readers = Readers::none();
-    for &bucket in buckets {
-        readers.push(pending(bucket));
+    for &entry in entries {
+        readers.push(entry);
     }
     readers
 }
@@ -49,11 +73,8 @@ fn later_entries_close_the_gap() {
 #[test]
 fn a_reader_that_changes_keeps_its_place() {
     let mut readers = list(&[3, 1, 2]);
-    let second = SharedState::Pending2 {
-        bucket: BucketId(1),
-    };
-    readers.change(1, second);
-    assert_eq!(readers.listed(), [pending(3), second, pending(2)]);
+    readers.change(1, pending2(1));
+    assert_eq!(readers.listed(), [pending(3), pending2(1), pending(2)]);
 }
 
 #[test]
@@ -64,4 +85,121 @@ fn a_length_above_the_capacity_lists_every_place() {
         assert_eq!(readers.listed(), readers.entries);
         assert!(readers.past().is_empty());
     }
+}
+
+#[test]
+fn the_first_of_several_equal_is_found() {
+    for sought in each_phase(1) {
+        assert_eq!(list_of(&[sought; 3]).find(sought), Some(0));
+        let later = list_of(&[pending(2), sought, pending(2), sought, sought]);
+        assert_eq!(later.find(sought), Some(1));
+    }
+}
+
+#[test]
+fn another_phase_at_the_bucket_is_passed_over() {
+    for sought in each_phase(1) {
+        let mut entries = each_phase(1).to_vec();
+        entries.retain(|&entry| entry != sought);
+        assert_eq!(entries.len(), 2);
+        assert_eq!(list_of(&entries).find(sought), None);
+        entries.push(sought);
+        assert_eq!(list_of(&entries).find(sought), Some(2));
+    }
+    let zero = list_of(&[pending(1), pending2(1), obtained(1, 0)]);
+    assert_eq!(zero.find(obtained(1, 0)), Some(2));
+}
+
+#[test]
+fn another_value_at_the_bucket_is_passed_over() {
+    for other in [0, 4, 5 + (1 << 32), 5 + (1 << 63), StoredType::MAX] {
+        let without = list_of(&[obtained(1, other)]);
+        assert_eq!(without.find(obtained(1, 5)), None);
+        let both = list_of(&[obtained(1, other), obtained(1, 5)]);
+        assert_eq!(both.find(obtained(1, 5)), Some(1));
+    }
+}
+
+#[test]
+fn the_same_phase_at_another_bucket_is_passed_over() {
+    for other in [0, 2, 3, 5, 255] {
+        for (sought, elsewhere) in each_phase(1).into_iter().zip(each_phase(other)) {
+            assert_eq!(list_of(&[elsewhere]).find(sought), None);
+            assert_eq!(list_of(&[elsewhere, sought]).find(sought), Some(1));
+        }
+    }
+}
+
+#[test]
+fn nobody_is_found_in_an_empty_list() {
+    for sought in [each_phase(0), each_phase(1)].concat() {
+        assert_eq!(Readers::none().find(sought), None);
+    }
+}
+
+#[test]
+fn a_full_list_is_searched_to_its_end() {
+    for sought in each_phase(1) {
+        for other in each_phase(1).into_iter().chain(each_phase(2)) {
+            if other != sought {
+                let mut full = list_of(&[other; 64]);
+                assert_eq!(full.find(sought), None);
+                full.change(63, sought);
+                assert_eq!(full.find(sought), Some(63));
+            }
+        }
+    }
+}
+
+#[test]
+fn what_lies_past_the_length_is_not_found() {
+    for sought in each_phase(1) {
+        for length in 0..64 {
+            let mut readers = list(&vec![2; length]);
+            readers.entries[length..].fill(sought);
+            assert_eq!(readers.find(sought), None);
+            readers.length += 1;
+            assert_eq!(readers.find(sought), Some(length));
+        }
+    }
+}
+
+#[test]
+fn a_length_above_the_capacity_looks_at_every_place() {
+    for length in [64, 65, 65_535] {
+        for sought in each_phase(1) {
+            let mut readers = list(&[2; 64]);
+            readers.length = length;
+            assert_eq!(readers.find(sought), None);
+            for place in (0..64).rev() {
+                readers.change(place, sought);
+                assert_eq!(readers.find(sought), Some(place));
+            }
+        }
+    }
+}
+
+#[test]
+fn every_short_list_gives_the_first_equal() {
+    let mut few = Vec::new();
+    for bucket in [0, 1] {
+        few.extend([pending(bucket), pending2(bucket)]);
+        few.extend([obtained(bucket, 0), obtained(bucket, 5)]);
+    }
+    let mut lists = vec![Vec::new()];
+    let mut judged = 0;
+    for _ in 0..=3 {
+        let mut longer = Vec::new();
+        for entries in lists {
+            let readers = list_of(&entries);
+            for &sought in &few {
+                let first = readers.listed().iter().position(|r| *r == sought);
+                assert_eq!(readers.find(sought), first, "{sought:?} in {entries:?}");
+                longer.push([entries.as_slice(), &[sought]].concat());
+                judged += 1;
+            }
+        }
+        lists = longer;
+    }
+    assert_eq!(judged, 8 * (1 + 8 + 64 + 512));
 }

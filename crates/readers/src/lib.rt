@@ -81,21 +81,25 @@ pub fn empty() -> Readers
     Readers { items, len: 0 }
 }
 
-// The place of the first reader equal to `want`.
+// The place of the first reader equal to `want`. The bucket is compared first, the phase with its value only where that agrees.
 pub fn find(rs: Readers, want: Reader) -> Found
     ensures { λ r. ⌜ r ≡ findIn (live rs) want ⌝ }
 {
     let len = rs.len;
-    let mut i: usize = 0;
-    while i < CAPACITY {
-        if len <= i {
+    let mut place: usize = 0;
+    while place < CAPACITY {
+        if len <= place {
             return Found::Nowhere;
         }
-        let r = rs.items[i];
-        if same(r, want) {
-            return Found::At(i);
+        let r = rs.items[place];
+        if r.bucket.0 == want.bucket.0 {
+            let p = r.phase;
+            let q = want.phase;
+            if same_phase(p, q) {
+                return Found::At(place);
+            }
         }
-        i += 1;
+        place += 1;
     }
     Found::Nowhere
 }
