@@ -125,7 +125,8 @@ impl SharedState {
     }
 }
 
-/// The exclusive holder, from its claim to the page in its hands.
+/// The exclusive holder, from its claim to the page in its hands. The value is
+/// storage's; one that is Obtained keeps the value that it took.
 #[derive(Clone, Copy, Debug, PartialEq, Eq)]
 #[allow(missing_docs)]
 pub enum ExcState {
@@ -146,6 +147,7 @@ pub enum ExcState {
     Obtained {
         bucket: Option<BucketId>,
         clean: bool,
+        value: StoredType,
     },
 }
 
@@ -244,6 +246,8 @@ pub enum Refusal {
     ImageLength = 15,
     /// The bytes are not the image of a sound record.
     NotImage = 16,
+    /// The holder is clean, and the value is another than it keeps.
+    OtherValue = 17,
 }
 
 /// What a request is answered: accepted, with the value if one was withdrawn,

@@ -70,7 +70,8 @@ fn read_bucket(byte: u8) -> Option<BucketId> {
     (byte != NO_BUCKET).then_some(BucketId(byte))
 }
 
-/// The outer none is a kind without meaning, the inner one nobody.
+/// The outer none is a kind without meaning, the inner one nobody. Kind 4 has
+/// none: it was Obtained, without the value that was taken.
 fn read_exc_state(bytes: &[u8; IMAGE], clean: bool) -> Option<Option<ExcState>> {
     let bucket = read_bucket(bytes[place::EXC_BUCKET]);
     let visited_count = Visited(bytes[place::VISITED]);
@@ -85,7 +86,11 @@ fn read_exc_state(bytes: &[u8; IMAGE], clean: bool) -> Option<Option<ExcState>> 
             clean,
             value,
         }),
-        4 => Some(ExcState::Obtained { bucket, clean }),
+        5 => Some(ExcState::Obtained {
+            bucket,
+            clean,
+            value,
+        }),
         _ => return None,
     })
 }
@@ -137,7 +142,7 @@ pub fn unlooked(bytes: &[u8; IMAGE]) -> Vec<usize> {
     add(bytes[place::WRITEBACK_IN] == 0, place::WRITEBACK, 8);
     add(exc_kind == 0, place::EXC_BUCKET, 1);
     add(exc_kind != 3, place::VISITED, 1);
-    add(matches!(exc_kind, 0 | 4), place::EXC_VALUE, 8);
+    add(exc_kind == 0, place::EXC_VALUE, 8);
     add(bytes[place::LOADER_KIND] < 2, place::LOADER_BUCKET, 1);
     for entry in (place::READERS..IMAGE).step_by(RECORD) {
         add(true, entry + 2, 6);
@@ -177,7 +182,7 @@ fn write_exc_state(bytes: &mut [u8; IMAGE], holder: Option<ExcState>) {
             value,
             ..
         } => (3, visited_count.0, clean, value),
-        ExcState::Obtained { clean, .. } => (4, 0, clean, 0),
+        ExcState::Obtained { clean, value, .. } => (5, 0, clean, value),
     };
     bytes[place::EXC_KIND] = kind;
     bytes[place::EXC_BUCKET] = write_bucket(holder.bucket());

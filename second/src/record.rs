@@ -46,7 +46,8 @@ pub fn storage_some_invariant(page: &Page) -> bool {
     page.storage.is_some() != withdrawn
 }
 
-/// Rule 2: what holds beside each kind of exclusive holder.
+/// Rule 2: what holds beside each kind of exclusive holder. What one that is
+/// Obtained keeps may be any value: storage is out.
 pub fn exc_state_invariants(page: &Page) -> bool {
     match page.exc_state {
         Some(
@@ -64,7 +65,11 @@ pub fn exc_state_invariants(page: &Page) -> bool {
                 && valid_bucket(bucket)
                 && page.storage == Some(value)
         }
-        Some(ExcState::Obtained { bucket, clean: _ }) => {
+        Some(ExcState::Obtained {
+            bucket,
+            clean: _,
+            value: _,
+        }) => {
             page.loading_state.is_none() && page.writeback_state.is_none() && valid_bucket(bucket)
         }
         None => true,

@@ -223,24 +223,32 @@ fn take_exc_lock_check_ref_count(page: &mut Page) -> Answer {
     Ok(None)
 }
 
+/// Changed from the source: the holder keeps the value that is handed out.
 fn withdraw_take_exc_lock_finish(page: &mut Page) -> Answer {
     let Some(ExcState::Pending {
         bucket,
         visited_count,
         clean,
-        value: _,
+        value,
     }) = page.exc_state
     else {
         return Err(Refusal::NoHolder);
     };
     allow(visited_count.next_bucket().is_none(), Refusal::WrongVisited)?;
-    page.exc_state = Some(ExcState::Obtained { bucket, clean });
+    page.exc_state = Some(ExcState::Obtained {
+        bucket,
+        clean,
+        value,
+    });
     Ok(Some(withdraw(page)))
 }
 
+/// Changed from the source, as the next one is: a clean holder puts in just the
+/// value that it keeps.
 fn deposit_downgrade_exc_lock(page: &mut Page, value: StoredType) -> Answer {
     let bucket = editor_bucket(page)?.ok_or(Refusal::HolderBucket)?;
     list_room(page)?;
+    clean_value(page, value)?;
     page.exc_state = None;
     page.flag = Flag::Available;
     page.storage = Some(value);
@@ -251,6 +259,7 @@ fn deposit_downgrade_exc_lock(page: &mut Page, value: StoredType) -> Answer {
 
 fn deposit_downgrade_exc_lock_to_claim(page: &mut Page, value: StoredType) -> Answer {
     let bucket = editor_bucket(page)?.ok_or(Refusal::HolderBucket)?;
+    clean_value(page, value)?;
     page.exc_state = Some(ExcState::Claim {
         bucket: Some(bucket),
         value,
@@ -264,6 +273,7 @@ fn exc_inc_count(page: &mut Page, bucket: BucketId) -> Answer {
     let Some(ExcState::Obtained {
         bucket: own_bucket,
         clean,
+        value,
     }) = page.exc_state
     else {
         return Err(Refusal::NoHolder);
@@ -273,6 +283,7 @@ fn exc_inc_count(page: &mut Page, bucket: BucketId) -> Answer {
     page.exc_state = Some(ExcState::Obtained {
         bucket: Some(bucket),
         clean,
+        value,
     });
     count_up(page, bucket);
     Ok(None)
@@ -453,6 +464,7 @@ fn deposit_exc_lock_to_unmapped(page: &mut Page, value: StoredType) -> Answer {
 /// The editor puts the value in and leaves; the page gets this flag.
 fn deposit_exc_lock(page: &mut Page, value: StoredType, flag: Flag) -> Answer {
     let bucket = editor_bucket(page)?;
+    clean_value(page, value)?;
     page.exc_state = None;
     page.flag = flag;
     page.storage = Some(value);
@@ -497,6 +509,19 @@ fn editor_bucket(page: &Page) -> Result<Option<BucketId>, Refusal> {
     match page.exc_state {
         Some(ExcState::Obtained { bucket, .. }) => Ok(bucket),
         _ => Err(Refusal::NoHolder),
+    }
+}
+
+/// Whether the editor may put this value in: any one, but where it is clean just
+/// the one that it keeps.
+fn clean_value(page: &Page, value: StoredType) -> Result<(), Refusal> {
+    match page.exc_state {
+        Some(ExcState::Obtained {
+            bucket: _,
+            clean: true,
+            value: kept,
+        }) => allow(value == kept, Refusal::OtherValue),
+        _ => Ok(()),
     }
 }
 

@@ -85,6 +85,7 @@ fn refusal(number: u8) -> Option<Refusal> {
         14 => Refusal::NoRoom,
         15 => Refusal::ImageLength,
         16 => Refusal::NotImage,
+        17 => Refusal::OtherValue,
         _ => return None,
     })
 }

@@ -66,10 +66,10 @@ pub fn side_by_side(requests: &[u8], answers: &[u8]) -> Vec<String> {
 }
 
 /// The one refusal of the whole input, if the answers are that. The lines of a
-/// run have 0 or 2 to 11 only: its record is sound all along, and its requests
-/// are whole. So 1, 12, 13 and 14 speak of all that came in, even if that was
-/// one request; and any other number is the first request's own, even if the
-/// answers to the next ones are missing.
+/// run have 0, 2 to 11 or 17 only: its record is sound all along, and its
+/// requests are whole. So 1, 12, 13 and 14 speak of all that came in, even if
+/// that was one request; and any other number is the first request's own, even
+/// if the answers to the next ones are missing.
 fn whole_refusal(answers: &[u8]) -> Option<Refusal> {
     use Refusal::{NoRoom, NotSound, NotWhole, TooMany};
     match read_answer(answers.try_into().ok()?)? {
@@ -132,6 +132,7 @@ fn refusal_words(step: u8, refusal: Refusal) -> &'static str {
         Refusal::NoRoom => "too little space for the answers",
         Refusal::ImageLength => "not the length of an image",
         Refusal::NotImage => "not the image of a sound record",
+        Refusal::OtherValue => "the holder is clean, and keeps another value",
     }
 }
 

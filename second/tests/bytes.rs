@@ -133,11 +133,13 @@ fn answers_and_back() {
         Err(Refusal::NoRoom),
         Err(Refusal::ImageLength),
         Err(Refusal::NotImage),
+        Err(Refusal::OtherValue),
     ];
     for answer in answers {
         assert_eq!(read_answer(&answer_bytes(&answer)), Some(answer));
     }
-    for (number, answer) in (1..=16).zip(&answers[4..]) {
+    assert_eq!(answers.len(), 4 + 17);
+    for (number, answer) in (1..=17).zip(&answers[4..]) {
         assert_eq!(answer_bytes(answer)[0], number);
         assert_eq!(answer_bytes(answer)[1..], [0; 15]);
     }
@@ -161,7 +163,8 @@ fn other_bytes_are_no_answer() {
         line[place] = byte;
         read_answer(&line)
     };
-    assert_eq!(with(0, 17, 0), None, "no such number");
+    assert_eq!(with(0, 18, 0), None, "no such number");
+    assert_eq!(with(0, 255, 0), None, "no such number");
     assert_eq!(with(1, 2, 0), None, "neither 0 nor 1");
     assert_eq!(with(1, 1, 5), None, "a refusal with a value");
     assert_eq!(with(8, 1, 5), None, "a refusal with a value");

@@ -1,9 +1,9 @@
-//! Cases A to M, line by line.
+//! Cases A to O, line by line.
 
 mod common;
 
 use common::history::History;
-use second::kinds::{Answer, BucketId, Flag, Refusal, Request, SharedState, StoredType};
+use second::kinds::{Answer, BucketId, ExcState, Flag, Refusal, Request, SharedState, StoredType};
 use second::record::{fresh, sound, Page};
 use second::run::run;
 use second::steps::{step, step_in_place};
@@ -404,4 +404,101 @@ fn m() {
     assert_eq!(page, case_b());
     assert_eq!(page.shared_state.listed(), [obtained]);
     assert_eq!(departures(&after(4), &back), [0, 0, 0, 0]);
+}
+
+/// Four visits that meet nobody.
+fn visits(flag: Flag, counts: [u8; 4]) -> Vec<Line> {
+    let visit = || line(plain(7), Ok(None), flag, counts, Some(5));
+    vec![visit(), visit(), visit(), visit()]
+}
+
+/// Case N up to the page in the editor's hands, clean or not.
+fn case_n(clean: u8, flag: Flag) -> Page {
+    use Flag::{Claimed, PendingExcLock};
+    let own = [0, 1, 0, 0];
+    let claim = Request::new(4, 1, 0, 5);
+    let mut lines = vec![
+        line(claim, Ok(None), Claimed, own, Some(5)),
+        line(plain(5), Ok(None), PendingExcLock, own, Some(5)),
+        line(choosing(6, clean), Ok(None), flag, own, Some(5)),
+    ];
+    lines.extend(visits(flag, own));
+    lines.push(line(plain(8), Ok(Some(5)), flag, own, None));
+    play(case_b(), &lines)
+}
+
+#[test]
+fn n() {
+    use Flag::{Available, Claimed, ExcLockClean as Clean, ExcLockDirty as Dirty};
+    let own = [0, 1, 0, 0];
+    let other = Err(Refusal::OtherValue);
+    let page = play(
+        case_n(1, Clean),
+        &[
+            line(with(10, 6), other, Clean, own, None),
+            line(with(29, 6), other, Clean, own, None),
+            line(with(30, 6), other, Clean, own, None),
+            line(with(9, 6), other, Clean, own, None),
+            line(with(9, 5), Ok(None), Available, own, Some(5)),
+        ],
+    );
+    let reader = SharedState::Obtained {
+        bucket: BucketId(1),
+        value: 5,
+    };
+    assert_eq!(page.shared_state.listed(), [reader]);
+    assert_eq!(page.exc_state, None);
+    assert_eq!(page, case_b());
+
+    let same = [line(with(9, 5), Ok(None), Available, own, Some(5))];
+    assert_eq!(play(case_n(0, Dirty), &same), case_b());
+    let other = [line(with(10, 6), Ok(None), Claimed, own, Some(6))];
+    let page = play(case_n(0, Dirty), &other);
+    let claim = ExcState::Claim {
+        bucket: Some(BucketId(1)),
+        value: 6,
+    };
+    assert_eq!(page.exc_state, Some(claim));
+    assert!(page.shared_state.listed().is_empty());
+}
+
+#[test]
+fn o() {
+    use Flag::{
+        Available, Claimed, ExcLockClean as Clean, ExcLockDirty as Dirty, PendingExcLock, Unmapped,
+    };
+    let none = [0, 0, 0, 0];
+    let own = [0, 0, 1, 0];
+    let leave = Request::new(22, 1, 0, 5);
+    let bucket = Err(Refusal::HolderBucket);
+    let other = Err(Refusal::OtherValue);
+    let mut lines = vec![
+        line(leave, Ok(None), Available, none, Some(5)),
+        line(plain(3), Ok(None), Claimed, none, Some(5)),
+        line(plain(5), Ok(None), PendingExcLock, none, Some(5)),
+        line(choosing(6, 1), Ok(None), Clean, none, Some(5)),
+    ];
+    lines.extend(visits(Clean, none));
+    lines.extend([
+        line(plain(8), Ok(Some(5)), Clean, none, None),
+        line(with(9, 6), bucket, Clean, none, None),
+        line(with(29, 6), other, Clean, none, None),
+        line(at(18, 2), Ok(None), Clean, own, None),
+        line(with(9, 6), other, Clean, own, None),
+        line(with(30, 6), other, Clean, own, None),
+        line(with(10, 5), Ok(None), Claimed, own, Some(5)),
+        line(plain(5), Ok(None), PendingExcLock, own, Some(5)),
+        line(choosing(6, 1), Ok(None), Clean, own, Some(5)),
+        line(plain(28), Ok(None), Claimed, own, Some(5)),
+        line(plain(5), Ok(None), PendingExcLock, own, Some(5)),
+        line(choosing(6, 0), Ok(None), Dirty, own, Some(5)),
+    ]);
+    lines.extend(visits(Dirty, own));
+    lines.extend([
+        line(plain(8), Ok(Some(5)), Dirty, own, None),
+        line(with(30, 6), Ok(None), Unmapped, none, Some(6)),
+    ]);
+    assert_eq!(play(case_b(), &lines), fresh(6));
+    lines.retain(|line| line.answer.is_ok());
+    assert_eq!(departures(&case_b(), &lines), [0, 1, 1, 0]);
 }

@@ -612,7 +612,8 @@ fn busy_page_acts(operation: u8, payload: &[u8]) {
             vec![0, 1, 0, 0, 0, 0, 0, 0, 1, 2, 3, 4, 5, 6, 7, 8],
         ),
         (ask(18, 0, 0, 0), line(7)),
-        (ask(9, 0, 0, 9), line(0)),
+        (ask(9, 0, 0, 9), line(17)),
+        (ask(9, 0, 0, value), line(0)),
     ];
     let mut stream = op(operation, 0, payload);
     let mut expected = line(0);
@@ -622,8 +623,8 @@ fn busy_page_acts(operation: u8, payload: &[u8]) {
     }
     stream.extend(look());
     expected.extend([0, 0, 0, 0, 0, 0, 0, 0, 0, 0, 0, 0, 1, 0, 0, 0]);
-    expected.extend([3, 1, 1, 0, 0, 0, 1, 0, 9, 0, 0, 0, 0, 0, 0, 0]);
-    expected.extend([3, 2, 0, 0, 0, 0, 0, 0, 9, 0, 0, 0, 0, 0, 0, 0]);
+    expected.extend([3, 1, 1, 0, 0, 0, 1, 0, 1, 2, 3, 4, 5, 6, 7, 8]);
+    expected.extend([3, 2, 0, 0, 0, 0, 0, 0, 1, 2, 3, 4, 5, 6, 7, 8]);
     assert_eq!(output(&stream), expected);
 }
 
@@ -826,7 +827,7 @@ fn visited_and_counts_are_any_byte() {
 fn what_a_kind_does_not_have_is_not_looked_at() {
     let nobody = [(5, 9), (6, 9), (7, 1), (9, 9), (40, 9), (48, 9), (11, 9)];
     assert_eq!(judged(&raw(&nobody)), (0, 0));
-    let out = [(0, 10), (1, 0), (4, 4), (5, 255), (6, 9), (32, 9), (40, 9)];
+    let out = [(0, 10), (1, 0), (4, 5), (5, 255), (6, 9), (32, 9), (48, 9)];
     let written = answers(&[op(7, 0, &raw(&out)), look()]);
     assert_eq!(written[16..18], [0, 0]);
     assert_eq!(
@@ -850,8 +851,10 @@ fn a_payload_without_meaning_leaves_the_page_and_the_program_goes_on() {
         raw(&[(7, 2)]),
         raw(&[(7, 255)]),
         raw(&[(10, 2)]),
-        raw(&[(4, 5)]),
+        raw(&[(4, 4)]),
+        raw(&[(4, 6)]),
         raw(&[(4, 255)]),
+        raw(&[(0, 10), (1, 0), (4, 4), (5, 255)]),
         raw(&[(8, 4)]),
         raw(&[(8, 255)]),
     ];
@@ -1099,42 +1102,139 @@ fn a_claimant_turns_back() {
     }
 }
 
-/// An editor at bucket 3 and one without a bucket, beside a reader at bucket 0.
-/// The page is in with what they put in, and the next loader gets just that.
+/// An editor that has the page out and keeps this value, beside a reader at
+/// bucket 0. It is at bucket 3, or without a bucket.
+fn editing(clean: u8, counted: bool, value: u64) -> Vec<u8> {
+    let reader = [(2, 1), (16, 1), (64, 1)];
+    let out = [(0, 10 - clean), (1, 0), (4, 5), (7, clean)];
+    let own: &[_] = if counted {
+        &[(5, 3), (19, 1)]
+    } else {
+        &[(5, 255)]
+    };
+    let mut page = raw(&[&reader[..], &out, own].concat());
+    page[40..48].copy_from_slice(&value.to_le_bytes());
+    page
+}
+
+/// At bucket 3 and without a bucket, clean or not.
 #[test]
 fn an_editor_leaves() {
     let value = 0x0807_0605_0403_0201;
-    let reader = [(2, 1), (16, 1), (64, 1)];
-    let out = [(0, 9), (1, 0), (4, 4), (7, 1)];
-    for own in [&[(5, 3), (19, 1)][..], &[(5, 255)]] {
-        let editing = raw(&[&reader[..], &out, own].concat());
-        for (step, flag) in [(29, 3), (30, 0)] {
-            let written = asked_of(8, &editing, ask(step, 0, 0, value));
-            let expected = [
-                line(0),
-                vec![0, 0, 0, 0, 1, 0, 0, 0, 0, 0, 0, 0, 0, 0, 0, 0],
-                vec![flag, 1, 1, 0, 1, 0, 0, 0, 1, 2, 3, 4, 5, 6, 7, 8],
-                vec![1, 0, 0, 0, 0, 0, 0, 0, 0, 0, 0, 0, 0, 0, 0, 0],
-            ];
-            assert_eq!(written[..64], expected.concat());
+    for (clean, kept) in [(1, value), (0, value), (0, 9)] {
+        for counted in [true, false] {
+            leaves(&editing(clean, counted, kept));
         }
-        for load in [11, 12] {
-            let requests = [
-                ask(30, 0, 0, value),
-                ask(30, 0, 0, value),
-                ask(load, 0, 0, 0),
-                ask(29, 0, 0, 1),
-            ];
-            let stream = [op(8, 0, &editing), op(4, 64, &requests.concat())];
-            let expected = [
-                line(0),
-                line(0),
-                line(0),
-                line(6),
-                vec![0, 1, 0, 0, 0, 0, 0, 0, 1, 2, 3, 4, 5, 6, 7, 8],
-                line(6),
-            ];
-            assert_eq!(answers(&stream), expected.concat());
+    }
+}
+
+/// The page is in with what the editor puts in, and the next loader gets just
+/// that.
+fn leaves(editing: &[u8]) {
+    let value = 0x0807_0605_0403_0201;
+    for (step, flag) in [(29, 3), (30, 0)] {
+        let written = asked_of(8, editing, ask(step, 0, 0, value));
+        let expected = [
+            line(0),
+            vec![0, 0, 0, 0, 1, 0, 0, 0, 0, 0, 0, 0, 0, 0, 0, 0],
+            vec![flag, 1, 1, 0, 1, 0, 0, 0, 1, 2, 3, 4, 5, 6, 7, 8],
+            vec![1, 0, 0, 0, 0, 0, 0, 0, 0, 0, 0, 0, 0, 0, 0, 0],
+        ];
+        assert_eq!(written[..64], expected.concat());
+    }
+    for load in [11, 12] {
+        let requests = [
+            ask(30, 0, 0, value),
+            ask(30, 0, 0, value),
+            ask(load, 0, 0, 0),
+            ask(29, 0, 0, 1),
+        ];
+        let stream = [op(8, 0, editing), op(4, 64, &requests.concat())];
+        let expected = [
+            line(0),
+            line(0),
+            line(0),
+            line(6),
+            vec![0, 1, 0, 0, 0, 0, 0, 0, 1, 2, 3, 4, 5, 6, 7, 8],
+            line(6),
+        ];
+        assert_eq!(answers(&stream), expected.concat());
+    }
+}
+
+/// The kept value comes with a raw page and with an image, and stands at 40 in the
+/// image that is written. A clean editor puts in nothing else.
+#[test]
+fn a_clean_editor_keeps_what_it_came_with() {
+    let value = 0x0807_0605_0403_0201;
+    for operation in [7, 8] {
+        for counted in [true, false] {
+            let page = editing(1, counted, value);
+            assert_eq!(page[40..48], [1, 2, 3, 4, 5, 6, 7, 8]);
+            for step in [9, 10, 29, 30] {
+                let bucketless = !counted && step < 29;
+                for other in [0, 1, value + 1, value ^ 1 << 63] {
+                    let number = if bucketless { 7 } else { 17 };
+                    let written = asked_of(operation, &page, ask(step, 0, 0, other));
+                    assert_eq!(written[..16], line(number));
+                    assert_eq!(written[written.len() - 1_088..], page);
+                }
+                let number = if bucketless { 7 } else { 0 };
+                let written = asked_of(operation, &page, ask(step, 0, 0, value));
+                assert_eq!(written[..16], line(number));
+            }
+        }
+    }
+}
+
+/// What is kept comes in with a raw page whatever it is, and where the editor is
+/// not clean any value can be put in.
+#[test]
+fn a_dirty_editor_puts_in_any_value() {
+    for operation in [7, 8] {
+        for (kept, value) in [(0, 9), (9, 0), (9, 9), (u64::MAX, 1)] {
+            let page = editing(0, true, kept);
+            for (step, flag) in [(9, 3), (10, 4), (29, 3), (30, 0)] {
+                let written = asked_of(operation, &page, ask(step, 0, 0, value));
+                assert_eq!(written[..16], line(0));
+                assert_eq!(written[32..34], [flag, 1]);
+                assert_eq!(written[40..48], value.to_le_bytes());
+            }
+        }
+    }
+}
+
+/// The bucket comes later, and clean and the value stay.
+#[test]
+fn an_editor_keeps_its_value_where_it_gets_a_bucket() {
+    for clean in [0, 1] {
+        let uncounted = editing(clean, false, 0x0102_0304_0506_0708);
+        let counted = editing(clean, true, 0x0102_0304_0506_0708);
+        for operation in [7, 8] {
+            let written = asked_of(operation, &uncounted, ask(18, 3, 0, 0));
+            assert_eq!(written[..16], line(0));
+            assert_eq!(written[written.len() - 1_088..], counted);
+        }
+    }
+}
+
+/// Kind 4 was an editor whose value was not kept. It has no meaning as a raw page
+/// and is no image, whatever stands at 40.
+#[test]
+fn an_editor_that_does_not_say_what_it_took() {
+    for clean in [0, 1] {
+        for counted in [true, false] {
+            for value in [0, 9] {
+                let mut old = editing(clean, counted, value);
+                assert_eq!(answers(&[op(8, 0, &old)]), line(0));
+                old[4] = 4;
+                let stream = [op(1, 5, &[]), op(8, 0, &old), look()];
+                let expected = [line(0), line(16), FRESH.to_vec()];
+                assert_eq!(answers(&stream), expected.concat());
+                let stream = [op(7, 0, &unsound()), op(7, 0, &old), look()];
+                let expected = [line(0), line(255), UNSOUND.to_vec()];
+                assert_eq!(answers(&stream), expected.concat());
+            }
         }
     }
 }

@@ -204,20 +204,45 @@ fn claimants_beside_a_writeback() {
     }
 }
 
+/// The steps from a claim to the page, clean or not.
+fn edit(clean: u8) -> Vec<Step> {
+    let visit = (7, 0, 0, 0);
+    let start = [(5, 0, 0, 0), (6, 0, clean, 0), visit, visit, visit, visit];
+    [&start[..], &[(8, 0, 0, 0)]].concat()
+}
+
+/// What they took stands where a claimant's value does.
 #[test]
 fn editors() {
     for (clean, flag) in [(0, 10), (1, 9)] {
-        let visit = (7, 0, 0, 0);
-        let start = [(5, 0, 0, 0), (6, 0, clean, 0), visit, visit, visit, visit];
-        let steps = [&start[..], &[(8, 0, 0, 0)]].concat();
-        let none: [Part; 2] = [(0, &[flag]), (4, &[4, 255, 0, clean])];
+        let steps = edit(clean);
+        let none: [Part; 3] = [(0, &[flag]), (4, &[5, 255, 0, clean]), (40, &BYTES)];
         has_image(&claimed(None, &steps), &none);
         for bucket in 0..4 {
             let place = 16 + usize::from(bucket);
-            let parts: [Part; 3] = [(0, &[flag]), (4, &[4, bucket, 0, clean]), (place, &[1])];
+            let parts: [Part; 4] = [
+                (0, &[flag]),
+                (4, &[5, bucket, 0, clean]),
+                (place, &[1]),
+                (40, &BYTES),
+            ];
             has_image(&claimed(Some(bucket), &steps), &parts);
             let counted = [&steps[..], &[(18, bucket, 0, 0)]].concat();
             has_image(&claimed(None, &counted), &parts);
+        }
+    }
+}
+
+/// Any value can be kept, and 0 too.
+#[test]
+fn editors_that_keep_any_value() {
+    for value in [0, 1, 255, 256, 1 << 63, StoredType::MAX] {
+        for (clean, flag) in [(0, 10), (1, 9)] {
+            let page = after(fresh(0), &[(12, 0, 0, 0), (17, 0, 0, value), (3, 0, 0, 0)]);
+            let page = after(page, &edit(clean));
+            let kept = value.to_le_bytes();
+            let parts: [Part; 3] = [(0, &[flag]), (4, &[5, 255, 0, clean]), (40, &kept)];
+            has_image(&page, &parts);
         }
     }
 }
@@ -327,13 +352,11 @@ fn a_rich_page_damaged_at_every_place() {
     // Nobody else has the value, or cares for it.
     let unmapped = after(fresh(VALUE), &[(19, 1, 0, 0)]);
     assert_eq!(harmless(&unmapped), (32..40).collect::<Vec<_>>());
-    // An editor has it out, and nothing else can be said.
-    let visit = (7, 0, 0, 0);
-    let start = [(5, 0, 0, 0), (6, 0, 1, 0), visit, visit, visit, visit];
-    let edit = [&start[..], &[(8, 0, 0, 0), (19, 0, 0, 0)]].concat();
-    assert_eq!(harmless(&claimed(Some(0), &edit)), []);
+    // An editor has it out, and may have taken another value.
+    let editor = after(claimed(Some(0), &edit(1)), &[(19, 0, 0, 0)]);
+    assert_eq!(harmless(&editor), (40..48).collect::<Vec<_>>());
     // It may have visited a bucket more.
-    assert_eq!(harmless(&claimed(Some(0), &start[..5])), [6]);
+    assert_eq!(harmless(&claimed(Some(0), &edit(1)[..5])), [6]);
     assert_eq!(harmless(&crowded()), (32..40).collect::<Vec<_>>());
 }
 
@@ -350,11 +373,34 @@ fn no_image(page: &Page, parts: &[Part]) {
 
 #[test]
 fn numbers_without_a_meaning() {
-    for (place, least) in [(0, 11), (1, 2), (4, 5), (7, 2), (8, 4), (10, 2), (64, 4)] {
+    for (place, least) in [(0, 11), (1, 2), (4, 6), (7, 2), (8, 4), (10, 2), (64, 4)] {
         for byte in least..=255 {
             no_image(&busy(), &[(place, &[byte])]);
             no_image(&fresh(0), &[(place, &[byte])]);
         }
+    }
+}
+
+/// With 4 in byte 4 nothing is an image: not that of an editor, whatever it is
+/// said to have taken, nor any other.
+#[test]
+fn an_editor_that_does_not_say_what_it_took() {
+    for bucket in [None, Some(0), Some(3)] {
+        for clean in [0, 1] {
+            let editor = claimed(bucket, &edit(clean));
+            no_image(&editor, &[(4, &[4])]);
+            no_image(&editor, &[(4, &[4]), (40, &[0; 8])]);
+            no_image(&editor, &[(4, &[4]), (40, &[255; 8])]);
+        }
+    }
+    let (seed, requests) = (1, 0);
+    let plan = Plan { seed, requests };
+    for page in main_kept().iter().chain(&more_kept(&plan)) {
+        no_image(page, &[(4, &[4])]);
+        no_image(page, &[(4, &[4]), (40, &[0; 8])]);
+    }
+    for page in drawn_pages().iter().filter(|page| sound(page)).step_by(10) {
+        no_image(page, &[(4, &[4])]);
     }
 }
 
@@ -372,26 +418,25 @@ fn bytes_between_the_fields() {
 fn what_a_kind_does_not_have() {
     let pending = after(fresh(VALUE), &[(11, 0, 0, 0)]);
     let counted = after(pending.clone(), &[(13, 2, 0, 0)]);
-    let visit = (7, 0, 0, 0);
-    let edit = [(5, 0, 0, 0), (6, 0, 0, 0), visit, visit, visit, visit];
-    let editor = claimed(None, &[&edit[..], &[(8, 0, 0, 0)]].concat());
+    let editor = claimed(None, &edit(0));
+    let waiting = claimed(None, &edit(0)[..1]);
     for byte in [1, 255] {
         no_image(&fresh(VALUE), &[(5, &[byte])]);
         no_image(&fresh(VALUE), &[(6, &[byte])]);
         no_image(&fresh(VALUE), &[(9, &[byte])]);
         no_image(&pending, &[(9, &[byte])]);
         no_image(&claimed(None, &[]), &[(6, &[byte])]);
-        no_image(&claimed(None, &edit[..1]), &[(6, &[byte])]);
+        no_image(&waiting, &[(6, &[byte])]);
         no_image(&editor, &[(6, &[byte])]);
     }
     no_image(&fresh(VALUE), &[(7, &[1])]);
     no_image(&claimed(None, &[]), &[(7, &[1])]);
-    no_image(&claimed(None, &edit[..1]), &[(7, &[1])]);
+    no_image(&waiting, &[(7, &[1])]);
     no_image(&counted, &[(9, &[255]), (18, &[0])]);
     no_image(&pending, &[(32, &BYTES)]);
     no_image(&editor, &[(32, &BYTES)]);
-    no_image(&editor, &[(40, &BYTES)]);
     no_image(&fresh(VALUE), &[(40, &BYTES)]);
+    no_image(&pending, &[(40, &BYTES)]);
     no_image(&fresh(VALUE), &[(48, &BYTES)]);
     no_image(&claimed(None, &[]), &[(48, &BYTES)]);
 }

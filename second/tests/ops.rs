@@ -48,8 +48,8 @@ fn a_stream_is_made_the_same_again() {
 #[test]
 fn the_first_stream_is_small() {
     let stream = short(1);
-    assert!((80_000..=180_000).contains(&stream.len()));
-    assert!(answers(&stream).len() <= 290_000);
+    assert!((80_000..=203_000).contains(&stream.len()));
+    assert!(answers(&stream).len() <= 314_000);
 }
 
 #[test]
@@ -214,11 +214,11 @@ fn set(numbers: impl IntoIterator<Item = u8>) -> BTreeSet<u8> {
 /// What one short stream has to have, and many streams of course.
 fn everything(seen: &Seen) {
     for manner in [BY_VALUE, LENT] {
-        assert_eq!(seen.numbers[manner], set((0..=12).collect::<Vec<_>>()));
+        assert_eq!(seen.numbers[manner], set((0..=12).chain([17])));
     }
     assert_eq!(
         seen.numbers[IN_A_RUN],
-        set([0, 2, 3, 4, 5, 6, 7, 8, 9, 10, 11])
+        set([0, 2, 3, 4, 5, 6, 7, 8, 9, 10, 11, 17])
     );
     assert_eq!(seen.accepted[IN_A_RUN], set(1..=30));
     assert_eq!(seen.written, set([0, 2, 3, 4, 14]));
@@ -542,6 +542,138 @@ fn a_long_stream_edits_the_page_and_loads_it_again_often() {
     }
 }
 
+/// The steps by which an editor puts the page in.
+const DEPOSITS: [u8; 4] = [9, 10, 29, 30];
+
+/// What a request met that puts the page in, where an editor has it: the step, the
+/// editor's choice, whether the value is the one that it keeps, and the answer.
+type Put = (u8, bool, bool, u8);
+
+/// What a stream has of editors that put the page in.
+#[derive(Default)]
+struct Deposits {
+    /// What was asked, by the operation, and by the one that made the page.
+    asked: BTreeSet<(u8, Put)>,
+    origins: BTreeSet<(u8, Put)>,
+    /// The exclusive kinds of raw pages and of images, by the operation, with the
+    /// answer.
+    kinds: BTreeSet<(u8, u8, u8)>,
+}
+
+impl Deposits {
+    fn of(stream: &[u8]) -> Deposits {
+        let mut seen = Deposits::default();
+        for walk in walks(stream) {
+            for asked in walk.asked {
+                seen.add(walk.origin, &asked);
+            }
+        }
+        let mut drill = Drill::start();
+        for operation in operations(stream).0 {
+            let written = drill.perform(&operation).unwrap();
+            if let (7 | 8, Some(&kind)) = (operation.number, operation.payload.get(4)) {
+                seen.kinds.insert((operation.number, kind, written[0]));
+            }
+        }
+        seen
+    }
+
+    fn add(&mut self, origin: u8, asked: &Asked) {
+        let Ok(request) = read_request(&asked.bytes) else {
+            return;
+        };
+        let Some(ExcState::Obtained { clean, value, .. }) = asked.before.exc_state else {
+            return;
+        };
+        if DEPOSITS.contains(&request.step) {
+            let answer = answer_number(&asked.answer);
+            let put = (request.step, clean, request.value == value, answer);
+            self.asked.insert((asked.operation, put));
+            self.origins.insert((origin, put));
+        }
+    }
+}
+
+/// Single requests meet a clean editor with a value that it does not keep, and
+/// runs meet every editor with either value.
+#[test]
+fn every_stream_has_editors_that_put_in_what_they_keep_and_not() {
+    for seed in 1..=40 {
+        let seen = Deposits::of(&short(seed));
+        let has = |operation: u8, put: Put| {
+            let asked = (operation, put);
+            assert!(seen.asked.contains(&asked), "seed {seed}: {asked:?}");
+        };
+        for number in DEPOSITS {
+            for operation in [2, 3, 4] {
+                has(operation, (number, true, false, 17));
+            }
+            has(4, (number, true, true, 0));
+            has(4, (number, false, true, 0));
+            has(4, (number, false, false, 0));
+            for origin in [1, 7, 8] {
+                let put = (origin, (number, true, false, 17));
+                assert!(seen.origins.contains(&put), "seed {seed}: {put:?}");
+            }
+        }
+        for operation in [2, 3] {
+            for (number, answer) in [(9, 7), (9, 11), (10, 7)] {
+                has(operation, (number, true, true, answer));
+                has(operation, (number, true, false, answer));
+            }
+        }
+        for kind in [(7, 5, 0), (7, 4, 255), (7, 6, 255), (8, 5, 0), (8, 4, 16)] {
+            assert!(seen.kinds.contains(&kind), "seed {seed}: {kind:?}");
+        }
+    }
+}
+
+/// In every manner and from every origin.
+#[test]
+fn forty_streams_put_in_everything() {
+    let streams: Vec<Deposits> = (1..=40).map(|seed| Deposits::of(&short(seed))).collect();
+    let long = [Deposits::of(&long(2))];
+    for seen in [&streams[..], &long] {
+        for number in DEPOSITS {
+            for (clean, kept) in [(true, true), (false, true), (false, false)] {
+                let put = (number, clean, kept, 0);
+                for operation in [2, 3, 4] {
+                    let asked = (operation, put);
+                    assert!(seen.iter().any(|s| s.asked.contains(&asked)), "{asked:?}");
+                }
+                for origin in [1, 7, 8] {
+                    let asked = (origin, put);
+                    assert!(seen.iter().any(|s| s.origins.contains(&asked)), "{asked:?}");
+                }
+            }
+        }
+        assert!(seen.iter().any(|s| s.kinds.contains(&(8, 6, 16))));
+    }
+}
+
+/// How often a clean editor asks with another value than it keeps.
+fn other_values(seed: u64, requests: usize) -> usize {
+    let stream = stream(&Plan { seed, requests });
+    let mut drill = Drill::start();
+    let asked = operations(&stream).0.into_iter().filter_map(|operation| {
+        let written = drill.perform(&operation).unwrap();
+        matches!(operation.number, 2..=4).then_some(written)
+    });
+    asked
+        .map(|written| written.chunks(16).filter(|line| line[0] == 17).count())
+        .sum()
+}
+
+/// Not only by script: where walks are longer, there are more.
+#[test]
+fn walks_have_clean_editors_that_ask_with_another_value() {
+    for seed in 1..=3 {
+        let (few, many) = (other_values(seed, 2_000), other_values(seed, 17_000));
+        assert!(few >= 200, "seed {seed}: {few}");
+        assert!(many >= few + 50, "seed {seed}: {few}, {many}");
+    }
+}
+
 /// The lengths of runs, of payloads and of buffers that are at a limit.
 #[test]
 fn a_long_stream_has_what_is_expensive() {
@@ -752,16 +884,21 @@ fn the_census_adds_up() {
 }
 
 /// The past of every sound page, fresh, raw or read, leads to what is there. From
-/// each origin editors leave, with a bucket and without.
+/// each origin editors leave, with a bucket and without, and put the page in where
+/// it was taken as clean and where it was not.
 #[test]
 fn the_past_leads_to_what_is_there() {
     let mut left = BTreeSet::new();
+    let mut put_in = BTreeSet::new();
     let walks = (9..=12).flat_map(|seed| walks(&long(seed)));
     for walk in walks.filter(|walk| sound(&walk.start)) {
         let mut history = History::before(&walk.start);
         for asked in walk.asked {
             if let (Ok(request), Ok(withdrawn)) = (read_request(&asked.bytes), asked.answer) {
                 let departures = history.departures;
+                if DEPOSITS.contains(&request.step) {
+                    put_in.insert((walk.origin, request.step, history.out_clean()));
+                }
                 history.accepted(&request, withdrawn);
                 let departed = history.departures != departures;
                 left.insert((walk.origin, request.step, departed));
@@ -774,6 +911,12 @@ fn the_past_leads_to_what_is_there() {
             for departed in [false, true] {
                 let seen = (origin, number, departed);
                 assert!(left.contains(&seen), "{seen:?}");
+            }
+        }
+        for number in DEPOSITS {
+            for clean in [false, true] {
+                let seen = (origin, number, clean);
+                assert!(put_in.contains(&seen), "{seen:?}");
             }
         }
     }

@@ -50,7 +50,7 @@ fn loaded_then(steps: &[(u8, u8, u8, StoredType)]) -> Page {
     after(&[&LOADED, steps].concat())
 }
 
-/// An editor without a bucket, the page in its hands.
+/// An editor without a bucket, the page in its hands, which it took as clean.
 fn editor() -> Page {
     let visit = (7, 0, 0, 0);
     loaded_then(&[
@@ -249,15 +249,31 @@ fn number_11() {
     assert_eq!(refusal(&loading, 16, 0, 0, 1), full);
     let editing = crowded(counted_editor(), [16; 4]);
     assert_eq!(refusal(&editing, 9, 0, 0, 1), full);
+    assert_eq!(refusal(&editing, 9, 0, 0, 7), full);
     for number in [10, 29, 30] {
-        let request = Request::new(number, 0, 0, 1);
+        let request = Request::new(number, 0, 0, 7);
         assert!(step(editing.clone(), &request).answer.is_ok());
     }
     assert!(step(loading, &Request::new(17, 0, 0, 1)).answer.is_ok());
-    let claimed = step(counted_editor(), &Request::new(10, 0, 0, 1)).page;
+    let claimed = step(counted_editor(), &Request::new(10, 0, 0, 7)).page;
     let claimed = crowded(claimed, [16; 4]);
     assert_eq!(refusal(&claimed, 26, 0, 0, 0), full);
     assert!(step(claimed, &Request::new(25, 0, 0, 0)).answer.is_ok());
+}
+
+#[test]
+fn number_17() {
+    let other = Err(Refusal::OtherValue);
+    for number in [9, 10, 29, 30] {
+        assert_eq!(refusal(&counted_editor(), number, 0, 0, 1), other);
+        let request = Request::new(number, 0, 0, 7);
+        assert!(step(counted_editor(), &request).answer.is_ok());
+    }
+    for number in [29, 30] {
+        assert_eq!(refusal(&editor(), number, 0, 0, 1), other);
+        let request = Request::new(number, 0, 0, 7);
+        assert!(step(editor(), &request).answer.is_ok());
+    }
 }
 
 #[test]
@@ -281,6 +297,10 @@ fn the_lower_of_two_is_given() {
     assert_eq!(refusal(&full_list, 16, 0, 0, 0), Err(Refusal::NoHolder));
     assert_eq!(refusal(&full_list, 19, 0, 0, 0), Err(Refusal::CountFull));
     assert_eq!(refusal(&full_list, 19, 2, 0, 0), Err(Refusal::ListFull));
+    let full_list = crowded(counted_editor(), [16; 4]);
+    assert_eq!(refusal(&full_list, 9, 0, 0, 1), Err(Refusal::ListFull));
+    assert_eq!(refusal(&full_list, 10, 0, 0, 1), Err(Refusal::OtherValue));
+    assert_eq!(refusal(&editor(), 10, 0, 0, 1), Err(Refusal::HolderBucket));
 }
 
 #[test]
@@ -340,8 +360,8 @@ fn checked(mut page: Page) -> Page {
     page
 }
 
-/// Whether the refusal of this number (2 to 11) applies, told from the table of
-/// premises and without any order.
+/// Whether the refusal of this number (2 to 11, 17) applies, told from the table
+/// of premises and without any order.
 fn applies(number: u8, page: &Page, request: &Request) -> bool {
     let asked = request.step;
     match number {
@@ -355,6 +375,7 @@ fn applies(number: u8, page: &Page, request: &Request) -> bool {
         9 => asked == 7 && other_count(page),
         10 => [13, 18, 19].contains(&asked) && count(page, request.bucket) == CEILING.0,
         11 => [9, 16, 19, 26].contains(&asked) && page.shared_state.listed().len() == CAPACITY,
+        17 => [9, 10, 29, 30].contains(&asked) && other_value(page, request.value),
         _ => false,
     }
 }
@@ -447,6 +468,15 @@ fn other_count(page: &Page) -> bool {
     })
 }
 
+fn other_value(page: &Page, value: StoredType) -> bool {
+    match page.exc_state {
+        Some(ExcState::Obtained {
+            clean, value: kept, ..
+        }) => clean && value != kept,
+        _ => false,
+    }
+}
+
 fn count(page: &Page, bucket: u8) -> u8 {
     page.ref_counts
         .get(usize::from(bucket))
@@ -455,6 +485,7 @@ fn count(page: &Page, bucket: u8) -> u8 {
 
 fn lowest(page: &Page, request: &Request) -> u8 {
     (2..=11)
+        .chain([17])
         .find(|&number| applies(number, page, request))
         .unwrap_or(0)
 }
@@ -480,19 +511,27 @@ fn streams_give_the_lowest_number_that_applies() {
 #[test]
 fn every_request_on_many_records_gets_the_lowest_number() {
     for Asked { before, .. } in asked(9).step_by(20) {
-        for request in all_small_requests(before.storage) {
+        for request in all_small_requests(value_of(&before)) {
             let answer = step(before.clone(), &request).answer;
             assert_eq!(answer_number(&answer), lowest(&before, &request));
         }
     }
 }
 
-fn all_small_requests(storage: Option<StoredType>) -> Vec<Request> {
+/// The value in storage, or the one that the editor keeps.
+fn value_of(page: &Page) -> Option<StoredType> {
+    match page.exc_state {
+        Some(ExcState::Obtained { value, .. }) => Some(value),
+        _ => page.storage,
+    }
+}
+
+fn all_small_requests(own: Option<StoredType>) -> Vec<Request> {
     let mut all = Vec::new();
     for number in 0..=31 {
         for bucket in 0..=4 {
             for clean in 0..=2 {
-                for value in [0, 1, storage.unwrap_or(2)] {
+                for value in [0, 1, own.unwrap_or(2)] {
                     all.push(Request::new(number, bucket, clean, value));
                 }
             }

@@ -117,8 +117,12 @@ fn page(flag: Flag, holder: ExcState, readers: &[SharedState]) -> Page {
 
 /// An editor that has the page out.
 fn editing(bucket: Option<BucketId>, clean: bool, readers: &[SharedState]) -> Page {
-    let flag = choice(clean);
-    page(flag, ExcState::Obtained { bucket, clean }, readers)
+    let holder = ExcState::Obtained {
+        bucket,
+        clean,
+        value: VALUE,
+    };
+    page(choice(clean), holder, readers)
 }
 
 fn choice(clean: bool) -> Flag {
@@ -253,14 +257,23 @@ fn step_28_leaves_readers_of_every_phase() {
     }
 }
 
+/// What editors put in: one that is clean just what it keeps.
+const PUT_IN: [(bool, StoredType); 6] = [
+    (true, VALUE),
+    (false, VALUE),
+    (false, 0),
+    (false, 9),
+    (false, 1 << 63),
+    (false, StoredType::MAX),
+];
+
 /// Beside an editor there are Pending readers alone, and they stay.
 #[test]
 fn steps_29_and_30_put_the_page_in_and_leave() {
     for (number, flag) in [(29, Flag::Available), (30, Flag::Unmapped)] {
         for bucket in BUCKETS {
             for readers in [[0; 4], [3, 0, 0, 0], [1, 2, 0, 5], [30, 30, 2, 2]] {
-                for value in [0, 9, 1 << 63, StoredType::MAX] {
-                    let clean = value == 9;
+                for (clean, value) in PUT_IN {
                     let before = editing(bucket, clean, &crowd(readers));
                     let after = Page {
                         storage: Some(value),
@@ -303,7 +316,7 @@ fn then(page: Page, steps: &[(u8, u8, u8, StoredType)]) -> Page {
 /// With a reader that stays, by 11 with a bucket and without, and by 12.
 #[test]
 fn an_unmapped_page_is_loaded_again() {
-    let before = editing(Some(BucketId(1)), true, &[pending(1)]);
+    let before = editing(Some(BucketId(1)), false, &[pending(1)]);
     let unmapped = then(before, &[(30, 0, 0, 9)]);
     assert_eq!(unmapped.ref_counts.map(|count| count.0), [0, 1, 0, 0]);
     for number in [1, 3, 4, 23] {
@@ -357,6 +370,12 @@ fn a_claimant_turns_back_and_comes_to_the_page_after_all() {
 
 // Refused.
 
+/// A request of one of the six, with what an editor keeps where it takes a value.
+fn asking(number: u8) -> Request {
+    let value = if number < 29 { 0 } else { VALUE };
+    Request::new(number, 0, 0, value)
+}
+
 /// A page for each of the steps that accepts it.
 fn accepting(number: u8) -> Page {
     let own = Some(BucketId(1));
@@ -371,7 +390,7 @@ fn accepting(number: u8) -> Page {
 #[test]
 fn number_1() {
     for number in 25..=30 {
-        let request = Request::new(number, 0, 0, 0);
+        let request = asking(number);
         assert_eq!(step(accepting(number), &request).answer, Ok(None));
         let mut more = accepting(number);
         more.ref_counts[3] = Count(1);
@@ -410,14 +429,13 @@ fn number_3() {
             bad(0, clean, 0);
         }
         bad(1, 1, 1);
+        bad(0, 1, VALUE);
         for value in [1, VALUE, 1 << 63] {
             if number < 29 {
                 bad(0, 0, value);
-            } else {
-                let request = Request::new(number, 0, 0, value);
-                assert_eq!(step(page.clone(), &request).answer, Ok(None));
             }
         }
+        assert_eq!(step(page.clone(), &asking(number)).answer, Ok(None));
     }
 }
 
@@ -456,7 +474,7 @@ fn all_holders() -> Vec<(Page, &'static [u8])> {
 fn number_6() {
     for (page, accepted) in all_holders() {
         for number in 25..=30 {
-            let request = Request::new(number, 0, 0, 0);
+            let request = asking(number);
             if accepted.contains(&number) {
                 assert_eq!(step(page.clone(), &request).answer, Ok(None));
             } else {
@@ -498,6 +516,22 @@ fn number_11_is_for_26_alone() {
         for number in [29, 30] {
             let answer = step(before.clone(), &Request::new(number, 0, 0, 0)).answer;
             assert_eq!(answer, Ok(None));
+        }
+    }
+}
+
+#[test]
+fn number_17_is_for_29_and_30_alone() {
+    for bucket in BUCKETS {
+        for readers in [[0; 4], [30, 30, 2, 2]] {
+            let before = editing(bucket, true, &crowd(readers));
+            for number in [29, 30] {
+                for value in [0, 1, VALUE ^ 1 << 63, StoredType::MAX] {
+                    let answer = refusal(&before, &Request::new(number, 0, 0, value));
+                    assert_eq!(answer, Err(Refusal::OtherValue));
+                }
+                assert_eq!(step(before.clone(), &asking(number)).answer, Ok(None));
+            }
         }
     }
 }

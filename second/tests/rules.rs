@@ -37,7 +37,11 @@ fn pending(bucket: Option<BucketId>, visited: u8, clean: bool) -> ExcState {
 }
 
 fn obtained(bucket: Option<BucketId>, clean: bool) -> ExcState {
-    ExcState::Obtained { bucket, clean }
+    ExcState::Obtained {
+        bucket,
+        clean,
+        value: VALUE,
+    }
 }
 
 const WRITEBACK: WritebackState = WritebackState { value: VALUE };
@@ -194,6 +198,23 @@ fn rule_2() {
         broken(&record(Flag::Loading, Some(holder), loader, None, &[]), 2);
     }
     broken(&record(Flag::ExcLockClean, editor, loader, None, &[]), 2);
+}
+
+/// No rule speaks of the value that an editor keeps.
+#[test]
+fn an_editor_may_keep_any_value() {
+    for (clean, flag) in [(true, Flag::ExcLockClean), (false, Flag::ExcLockDirty)] {
+        for value in [0, 1, VALUE, 1 << 63, StoredType::MAX] {
+            for bucket in [None, at(0), at(3)] {
+                let editor = Some(ExcState::Obtained {
+                    bucket,
+                    clean,
+                    value,
+                });
+                assert!(sound(&record(flag, editor, None, None, &[])));
+            }
+        }
+    }
 }
 
 #[test]

@@ -50,6 +50,14 @@ fn refusals_that_depend_on_the_step() {
     }
 }
 
+#[test]
+fn another_value_than_a_clean_holder_keeps() {
+    for step in [9, 10, 29, 30] {
+        let words = "refused, 17: the holder is clean, and keeps another value";
+        assert_eq!(said(step, 17), words);
+    }
+}
+
 /// The words for a request of this step, with a value where it takes one.
 fn asked(step: u8, value: u8) -> String {
     let lines = side_by_side(&request(step, 0, value), &answer(0));
@@ -116,7 +124,7 @@ fn a_refusal_of_the_whole_input_is_one_line() {
 
 #[test]
 fn one_answer_to_one_request_is_its_own() {
-    for number in [0, 2, 3, 4, 5, 6, 7, 8, 9, 10, 11] {
+    for number in [0, 2, 3, 4, 5, 6, 7, 8, 9, 10, 11, 17] {
         let lines = side_by_side(&request(19, 0, 0), &answer(number));
         assert!(lines[0].starts_with("  1  19 shared_inc_count, bucket 0"));
     }

@@ -2,30 +2,33 @@
 -- (that the page is out just if one of them has it is rule 1), and then request by request, the same on both sides. Assumes nothing.
 use Prim.Native.Nat.{ℕ}
 use mathlib.Core.Path.{_≡_, refl, sym, ap, _∙_}
-use mathlib.Core.Bool.{Bool, true, false, not, _||_, Bool·not-not}
+use mathlib.Core.Bool.{Bool, true, false, not, cond, _||_, Bool·not-not}
 use mathlib.Core.List.{List, [], _∷_, _++_}
 use native.Mathlib.Omega.{arith}
 use lib.Dec.{T}
 use Rattle.laws.proofs.Tests.{alike}
 use Rattle.kinds.specs.declared.{MaybeBucket.MaybeBucket, ExcState.ExcState, LoadingState.LoadingState}
 use Rattle.page_record.specs.declared.Page.{Page}
-use Rattle.page_record.specs.Holders.{isStored, valueOf, hasBucket, excBucket, loadingBucket, noLoad, isEditing}
+use Rattle.page_record.specs.Holders.{isStored, excValue, hasBucket, excBucket, loadingBucket, noLoad, isEditing}
 use Rattle.page_record.specs.Pages.{headOf}
 use Rattle.rules.specs.Rules.{withdrawn}
 use Rattle.soundness.specs.Soundness.{soundOf}
 use Rattle.soundness.proofs.Shapes.{rules-of}
 use Rattle.soundness.proofs.Tested.{facts}
-use Rattle.demands.specs.History.{Event, Start, lastCounted, countedSince, departures, lastPut}
-use Rattle.demands.specs.History.{lastWithdrew, editorNamed}
+use Rattle.lock.proofs.Exact.Granted.{granted}
+use Rattle.demands.specs.History.{Event, Start, putBefore, lastCounted, countedSince, departures, lastPut}
+use Rattle.demands.specs.History.{lastTaken, lastWithdrew, editorNamed}
 use Rattle.demands.specs.Before.{plainly, named, loaderCame, editorCame, before, bareStart, AsIf}
 
 -- ---- what the words say of some requests
-record Said (s : Start) (past : List Event) (last : MaybeBucket) (since : Bool) (editor : MaybeBucket) (value : ℕ) (out : Bool) : Type 0 where
+record Said (s : Start) (past : List Event) (last : MaybeBucket) (since : Bool) (editor : MaybeBucket) (value took : ℕ) (out : Bool)
+    : Type 0 where
   last-named : lastCounted s past ≡ last
   counted : countedSince s past ≡ since
   edited : editorNamed s past ≡ editor
   left : (b : ℕ) → departures s b past ≡ 0
   put : lastPut s past ≡ value
+  taken : lastTaken s past ≡ took
   withdrew : lastWithdrew s past ≡ out
 
 -- ---- before the start
@@ -34,58 +37,55 @@ module _ (counts : ℕ → ℕ) (v : ℕ) where
   bare = record { counts = counts; value = v; out = false; loader = MaybeBucket.None; editor = MaybeBucket.None }
 
   -- of the editor, a 4 is looked at, and an 8
-  claim-said : (m : MaybeBucket) → Said bare (named 4 m) MaybeBucket.None false m v false
+  claim-said : (m : MaybeBucket) → Said bare (named 4 m) MaybeBucket.None false m v v false
   claim-said MaybeBucket.None =
-      record { last-named = refl; counted = refl; edited = refl; left = λ b. refl; put = refl; withdrew = refl }
+      record { last-named = refl; counted = refl; edited = refl; left = λ b. refl; put = refl; taken = refl; withdrew = refl }
   claim-said (MaybeBucket.At x) =
-      record { last-named = refl; counted = refl; edited = refl; left = λ b. refl; put = refl; withdrew = refl }
+      record { last-named = refl; counted = refl; edited = refl; left = λ b. refl; put = refl; taken = refl; withdrew = refl }
 
-  editor-said : (e : ExcState) → Said bare (editorCame e) MaybeBucket.None false (excBucket e) v (isEditing e)
+  editor-said : (e : ExcState)
+      → Said bare (editorCame e) MaybeBucket.None false (excBucket e) v (cond (isEditing e) (excValue e) v) (isEditing e)
   editor-said ExcState.None = claim-said MaybeBucket.None
   editor-said (ExcState.Claim m w) = claim-said m
   editor-said (ExcState.PendingAwaitWriteback m w) = claim-said m
   editor-said (ExcState.Pending m n c w) = claim-said m
-  editor-said (ExcState.Obtained m c) =
-      let t = claim-said m in
-      record {
-        last-named = t .last-named;
-        counted = t .counted;
-        edited = t .edited;
-        left = λ b. omega (arith, t .left b);
-        put = t .put;
-        withdrew = refl;
-      }
+  editor-said (ExcState.Obtained MaybeBucket.None c w) =
+      record { last-named = refl; counted = refl; edited = refl; left = λ b. refl; put = refl; taken = refl; withdrew = refl }
+  editor-said (ExcState.Obtained (MaybeBucket.At x) c w) =
+      record { last-named = refl; counted = refl; edited = refl; left = λ b. refl; put = refl; taken = refl; withdrew = refl }
 
   -- a loader withdrew the page, whatever came before it, and the bucket that it has was named since
-  fetched-said : (m : MaybeBucket) (past : List Event) (editor : MaybeBucket) (out : Bool)
-      → Said bare past MaybeBucket.None false editor v out
-      → Said bare ((named 13 m ++ plainly 11 ∷ []) ++ past) m (hasBucket m) editor v true
-  fetched-said MaybeBucket.None past editor out t =
+  fetched-said : (m : MaybeBucket) (past : List Event) (editor : MaybeBucket) (took : ℕ) (out : Bool)
+      → Said bare past MaybeBucket.None false editor v took out
+      → Said bare ((named 13 m ++ plainly 11 ∷ []) ++ past) m (hasBucket m) editor v took true
+  fetched-said MaybeBucket.None past editor took out t =
       record {
         last-named = t .last-named;
         counted = refl;
         edited = t .edited;
         left = λ b. omega (arith, t .left b);
         put = t .put;
+        taken = t .taken;
         withdrew = refl;
       }
-  fetched-said (MaybeBucket.At x) past editor out t =
+  fetched-said (MaybeBucket.At x) past editor took out t =
       record {
         last-named = refl;
         counted = refl;
         edited = t .edited;
         left = λ b. omega (arith, t .left b);
         put = t .put;
+        taken = t .taken;
         withdrew = refl;
       }
 
-  loader-said : (l : LoadingState) (past : List Event) (editor : MaybeBucket) (out : Bool)
-      → Said bare past MaybeBucket.None false editor v out
-      → Said bare (loaderCame l ++ past) (loadingBucket l) (hasBucket (loadingBucket l)) editor v (not (noLoad l) || out)
-  loader-said LoadingState.None past editor out t = t
-  loader-said LoadingState.Pending past editor out t = fetched-said MaybeBucket.None past editor out t
-  loader-said (LoadingState.PendingCounted m) past editor out t = fetched-said m past editor out t
-  loader-said (LoadingState.Obtained m) past editor out t = fetched-said m past editor out t
+  loader-said : (l : LoadingState) (past : List Event) (editor : MaybeBucket) (took : ℕ) (out : Bool)
+      → Said bare past MaybeBucket.None false editor v took out
+      → Said bare (loaderCame l ++ past) (loadingBucket l) (hasBucket (loadingBucket l)) editor v took (not (noLoad l) || out)
+  loader-said LoadingState.None past editor took out t = t
+  loader-said LoadingState.Pending past editor took out t = fetched-said MaybeBucket.None past editor took out t
+  loader-said (LoadingState.PendingCounted m) past editor took out t = fetched-said m past editor took out t
+  loader-said (LoadingState.Obtained m) past editor took out t = fetched-said m past editor took out t
 
 -- ---- since the start
 module _ (p : Page) (sound : T (soundOf p)) where
@@ -99,12 +99,23 @@ module _ (p : Page) (sound : T (soundOf p)) where
       let stored = alike (isStored (p .storage)) (not (withdrawn e l)) (r .storage) in
       sym (ap not stored ∙ Bool·not-not (withdrawn e l))
 
+  -- what an editor that has the page out keeps is what was put in last
+  abbrev tookBefore : ℕ
+  tookBefore = cond (isEditing (p .«exc_state»)) (excValue (p .«exc_state»)) (putBefore p)
+
+  took-is : tookBefore ≡ putBefore p
+  took-is = go (isEditing (p .«exc_state»)) refl
+    where
+      go : (t : Bool) → isEditing (p .«exc_state») ≡ t → cond t (excValue (p .«exc_state»)) (putBefore p) ≡ putBefore p
+      go true e = rw (granted (headOf p) (facts p sound .parts .head) .editing (rw e tt))
+      go false e = refl
+
   begun : Said (bareStart p) (before p) (loadingBucket (p .«loading_state»)) (hasBucket (loadingBucket (p .«loading_state»)))
-      (excBucket (p .«exc_state»)) (valueOf (p .storage)) (withdrawn (p .«exc_state») (p .«loading_state»))
+      (excBucket (p .«exc_state»)) (putBefore p) tookBefore (withdrawn (p .«exc_state») (p .«loading_state»))
   begun =
-      loader-said (bareStart p .counts) (valueOf (p .storage)) (p .«loading_state») (editorCame (p .«exc_state»)) (excBucket (p .«exc_state»))
-      (isEditing (p .«exc_state»))
-      (editor-said (bareStart p .counts) (valueOf (p .storage)) (p .«exc_state»))
+      loader-said (bareStart p .counts) (putBefore p) (p .«loading_state») (editorCame (p .«exc_state»)) (excBucket (p .«exc_state»))
+      tookBefore (isEditing (p .«exc_state»))
+      (editor-said (bareStart p .counts) (putBefore p) (p .«exc_state»))
 
   pub as-if-before : (past : List Event) → AsIf p past
   as-if-before [] = record {
@@ -113,6 +124,7 @@ module _ (p : Page) (sound : T (soundOf p)) where
     named-editor = sym (begun .edited);
     departed = λ b. sym (begun .left b);
     put = sym (begun .put);
+    taken = sym (begun .taken ∙ took-is);
     withdrew = sym (begun .withdrew ∙ out-is);
   }
   as-if-before (e ∷ past) =
@@ -123,5 +135,6 @@ module _ (p : Page) (sound : T (soundOf p)) where
         named-editor = rw (t .named-editor);
         departed = λ b. simp (t .named-last, t .named-since, t .named-editor, t .departed b);
         put = rw (t .put);
+        taken = rw (t .taken);
         withdrew = rw (t .withdrew);
       }

@@ -17,7 +17,7 @@ use Rattle.replay.specs.Turns.{turnOf}
 use Rattle.replay.specs.Run.{runVerdict, ranOf, answersOf}
 use Rattle.demands.specs.Cases.{allHold, workedCases, caseB, caseK, caseL, departs, requestsA, answersA}
 
--- cases A to H and K to M
+-- cases A to H and K to O
 pub worked : T (allHold workedCases)
 unfolding stepOf lookFor editedIn judged decideOf soughtOf soundOf lowestBroken noReaders pushed putAt removedAt freshPage
 worked = tt

@@ -1,4 +1,4 @@
--- Demand 3, proved from any sound page (`demand3-from`): the history tells of counts, storage and the values handed out
+-- Demand 3, proved from any sound page (`demand3-from`): the history tells of counts, storage and the values kept and handed out
 -- (proofs/Told.antt); soundness carries storage's value to every holder, and shuts readers and the archive out while the page is
 -- out. A fresh page is one to start from (`demand3`), and what it starts with is plain (`fresh-start`, `counted-fresh`). Assumes
 -- nothing.
@@ -87,6 +87,8 @@ module _ (start : Start) (p : Page) (past : List Event) (s : Sound (headOf p) (l
     read = λ r at v e. was-put v (reads r at v e);
     claimed = λ t. was-put (excValue (p .«exc_state»)) (known s .claimant-in t);
     written = λ v e. was-put v (known s .archive-in v e);
+    kept = λ t. told .kept t .0;
+    taken = λ t. told .kept t .1;
     returned = told .handed;
     returns = hands;
     unread = λ o r at v e. apart v o (reads r at v e);
@@ -98,7 +100,7 @@ module _ (start : Start) (p : Page) (past : List Event) (s : Sound (headOf p) (l
 pub demand3-from : (p : Page) → T (soundOf p) → (qs : List Request) → Demand3 (startOf p) (after p qs) (history p qs [])
 demand3-from p sound qs =
     demanded (startOf p) (after p qs) (history p qs []) (facts (after p qs) (sound-after p qs sound) .parts)
-    (tells (startOf p) p [] qs sound (start-told p)) (history-hands p qs [] tt)
+    (tells (startOf p) p [] qs sound (start-told p sound)) (history-hands p qs [] tt)
 
 -- ---- from a fresh page
 -- nothing has come, this value was put in, the page is in, and nobody loads or edits

@@ -1,5 +1,5 @@
--- The exhibits and the flag premises, each one computed test over its whole table; and that 25 to 30 give no number but those that are
--- exhibited (`returns-answer`). Assumes nothing.
+-- The exhibits and the flag premises, each one computed test over its whole table; that 25 to 30 give no number but those that are
+-- exhibited (`returns-answer`); and that the premises of `Clean` can be met. Assumes nothing.
 use Prim.Native.Nat.{ℕ, _+_, _-_, _≤_}
 use mathlib.Core.Path.{_≡_, refl, subst}
 use mathlib.Core.Bool.{Bool, true, false, not, _&&_}
@@ -13,7 +13,7 @@ use Rattle.kinds.specs.declared.{Bucket.Bucket, ExcState.ExcState}
 use Rattle.kinds.specs.Numbers.{flagFrom, storageFrom, bucketFrom, phaseFrom, excFrom, loadingFrom, writebackFrom}
 use Rattle.readers.specs.Listed.{noReaders, pushed, putAt, removedAt}
 use Rattle.page_record.specs.declared.Page.{Page}
-use Rattle.page_record.specs.Holders.{isClaim, isAwait, isPending, isEditing}
+use Rattle.page_record.specs.Holders.{isClaim, isAwait, isPending, isEditing, excClean}
 use Rattle.page_record.specs.Pages.{freshPage}
 use Rattle.soundness.specs.Soundness.{soundOf, lowestBroken}
 use Rattle.requests.specs.declared.Request.{Request}
@@ -22,15 +22,19 @@ use Rattle.requests.specs.Requests.{lastStep, judged}
 use Rattle.requests.specs.Applies.{applies3}
 use Rattle.steps.specs.Decide.{decideOf, soughtOf}
 use Rattle.lock.specs.Step.{stepOf, lookFor, editedIn}
-use Rattle.lock.specs.Applies.{applies1, applies11, bucketWrong, applying}
+use Rattle.lock.specs.Applies.{applies1, applies11, bucketWrong, valueOther, applying}
 use Rattle.lock.proofs.Least.{least-number}
 use Rattle.wire.specs.Bytes.{lineWith}
 use Rattle.image.specs.Images.{kindBytes, countBytes, valueBytes, entries, imageOf}
 use Rattle.image.specs.Decoding.{u64At, excFromBytes, headFrom, readerFrom, readersFrom, pageFrom}
 use Rattle.image.specs.Keeping.{isImage, readVerdict, restoredFrom}
+use Rattle.image.specs.Samples.{editingClean, value}
 use Rattle.replay.specs.Run.{runVerdict}
+use Rattle.demands.specs.Cases.{plain, put}
+use Rattle.demands.specs.Clean.{requests, CleanTaking, FirstBack}
 use Rattle.demands.specs.Exhibits.{exhibited, flags, shown, holders, everyStepTaken, breakEach, brokenPages}
-use Rattle.demands.specs.Exhibits.{answered, trials, mayAnswer, everyReturnShown, wholeNumbers, refusesRightly, premises, resumes, resumed}
+use Rattle.demands.specs.Exhibits.{answered, trials, mayAnswer, everyReturnShown, everyPutBackShown, wholeNumbers, refusesRightly}
+use Rattle.demands.specs.Exhibits.{premises, resumes, resumed, looked, meanwhile}
 
 -- a sound record for each of the eleven flags
 pub flags-exhibited : T (every exhibited flags)
@@ -52,7 +56,7 @@ pub rules-exhibited : T (breakEach 1 brokenPages)
 unfolding lowestBroken noReaders freshPage
 rules-exhibited = tt
 
--- each of the numbers 0 to 11 is given somewhere
+-- each of the numbers 0 to 11 and 17 is given somewhere
 pub numbers-exhibited : T (every answered trials)
 unfolding stepOf lookFor editedIn judged decideOf soughtOf soundOf lowestBroken noReaders pushed putAt removedAt freshPage
 numbers-exhibited = tt
@@ -67,13 +71,13 @@ pub returns-exhibited : T everyReturnShown
 unfolding stepOf lookFor editedIn judged decideOf soughtOf soundOf lowestBroken noReaders pushed putAt removedAt freshPage
 returns-exhibited = tt
 
--- .. and no other: of the table of numbers, by whether the page is unsound, a field is wrong, the holder is there, its bucket is wrong
--- and the list is full
+-- .. and no other: of the table of numbers, by whether the page is unsound, a field is wrong, the holder is there, its bucket is wrong,
+-- the list is full, and the value is another than a clean holder keeps
 by-holder : (unsound field holder : Bool)
     → T (among (mayAnswer 25)
     (firstApplying
     ((1, unsound) ∷ (2, false) ∷ (3, field) ∷ (4, false) ∷ (5, false) ∷ (6, not holder) ∷ (7, holder && false)
-    ∷ (8, holder && false) ∷ (9, holder && false) ∷ (10, false) ∷ (11, false) ∷ [])))
+    ∷ (8, holder && false) ∷ (9, holder && false) ∷ (10, false) ∷ (11, false) ∷ (17, holder && false) ∷ [])))
 by-holder true field holder = tt
 by-holder false true holder = tt
 by-holder false false true = tt
@@ -83,13 +87,24 @@ by-bucket : (unsound field holder bucket full : Bool)
     → T (among (mayAnswer 26)
     (firstApplying
     ((1, unsound) ∷ (2, false) ∷ (3, field) ∷ (4, false) ∷ (5, false) ∷ (6, not holder) ∷ (7, holder && bucket)
-    ∷ (8, holder && false) ∷ (9, holder && false) ∷ (10, false) ∷ (11, full) ∷ [])))
+    ∷ (8, holder && false) ∷ (9, holder && false) ∷ (10, false) ∷ (11, full) ∷ (17, holder && false) ∷ [])))
 by-bucket true field holder bucket full = tt
 by-bucket false true holder bucket full = tt
 by-bucket false false false bucket full = tt
 by-bucket false false true true full = tt
 by-bucket false false true false true = tt
 by-bucket false false true false false = tt
+
+by-value : (unsound field holder other : Bool)
+    → T (among (mayAnswer 29)
+    (firstApplying
+    ((1, unsound) ∷ (2, false) ∷ (3, field) ∷ (4, false) ∷ (5, false) ∷ (6, not holder) ∷ (7, holder && false)
+    ∷ (8, holder && false) ∷ (9, holder && false) ∷ (10, false) ∷ (11, false) ∷ (17, holder && other) ∷ [])))
+by-value true field holder other = tt
+by-value false true holder other = tt
+by-value false false false other = tt
+by-value false false true true = tt
+by-value false false true false = tt
 
 module _ (p : Page) (b : Bucket) (clean value : ℕ) where
   abbrev asked : ℕ → Request
@@ -107,8 +122,8 @@ module _ (p : Page) (b : Bucket) (clean value : ℕ) where
       & by-bucket (applies1 p) (applies3 (asked 26)) (isClaim exc) (bucketWrong p 26) (applies11 p (asked 26))
       & by-holder (applies1 p) (applies3 (asked 27)) (isAwait exc)
       & by-holder (applies1 p) (applies3 (asked 28)) (isPending exc)
-      & by-holder (applies1 p) (applies3 (asked 29)) (isEditing exc)
-      & by-holder (applies1 p) (applies3 (asked 30)) (isEditing exc)
+      & by-value (applies1 p) (applies3 (asked 29)) (isEditing exc) (valueOther p 29 value)
+      & by-value (applies1 p) (applies3 (asked 30)) (isEditing exc) (valueOther p 30 value)
       & tt
 
 pub returns-answer : (p : Page) (q : Request) → 25 ≤ q .step → q .step ≤ lastStep
@@ -120,6 +135,24 @@ returns-answer p q low high =
     (subst (Answers p (q .bucket) (q .clean) (q .value)) is
     (pick 6 (λ (k : ℕ). Answers p (q .bucket) (q .clean) (q .value) (25 + k))
     (answers p (q .bucket) (q .clean) (q .value)) k (omega arith)))
+
+-- a clean editor puts in what it took, and a dirty one any value
+pub put-backs-exhibited : T everyPutBackShown
+unfolding stepOf lookFor editedIn judged decideOf soughtOf soundOf lowestBroken noReaders pushed putAt removedAt freshPage
+put-backs-exhibited = tt
+
+-- what is asked of a clean taking and of the first that puts the page in can be met, from 8 on and from an image on
+pub clean-exhibited : CleanTaking requests looked (plain 8) × FirstBack requests (stepOf looked (plain 8) .page) meanwhile (put 10 5)
+unfolding stepOf lookFor editedIn judged decideOf soughtOf soundOf lowestBroken noReaders pushed putAt removedAt freshPage
+clean-exhibited = (record { takes = tt; clean = tt }, record { none-before = (tt, (tt, (tt, (tt, (tt, tt))))); back = tt })
+
+pub clean-read-exhibited : T (isEditing (restoredFrom (editingClean .bytes) .page .«exc_state»))
+    × T (excClean (restoredFrom (editingClean .bytes) .page .«exc_state»))
+    × FirstBack requests (restoredFrom (editingClean .bytes) .page) (put 9 6 ∷ []) (put 9 value)
+unfolding stepOf lookFor editedIn judged decideOf soughtOf soundOf lowestBroken noReaders pushed putAt removedAt freshPage
+    imageOf kindBytes countBytes valueBytes entries lineWith pageFrom headFrom excFromBytes u64At readerFrom readersFrom isImage readVerdict
+    restoredFrom flagFrom storageFrom bucketFrom phaseFrom excFrom loadingFrom writebackFrom
+clean-read-exhibited = (tt, tt, record { none-before = (tt, tt); back = tt })
 
 -- each flag premise refuses under just the flags that RULES 3.2 shuts out
 pub flags-refused : T (every refusesRightly premises)

@@ -7,6 +7,7 @@ pub mod Demand3
 pub mod Lines
 pub mod Before
 pub mod Restart
+pub mod Clean
 pub mod Cases
 pub mod Exhibits
 pub mod NoSecond

@@ -91,7 +91,7 @@ runs-demanded start p past (g ∷ gs) sound told hands =
 
 -- from any sound page, after any runs, refused ones among them
 pub demand3-runs-from : (p : Page) → T (soundOf p) → (gs : List Given) → Demand3 (startOf p) (afterRuns p gs) (runsHistory p gs [])
-demand3-runs-from p sound gs = runs-demanded (startOf p) p [] gs sound (start-told p) tt
+demand3-runs-from p sound gs = runs-demanded (startOf p) p [] gs sound (start-told p sound) tt
 
 -- from a fresh page
 pub demand3-runs : (v : ℕ) (gs : List Given)

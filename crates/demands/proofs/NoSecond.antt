@@ -100,6 +100,7 @@ use Rattle.heads.proofs.number_at.Reads as number-at-contract
 use Rattle.heads.proofs.with_number.Reads as with-number-contract
 use Rattle.heads.proofs.lower.Reads as lower-contract
 use Rattle.heads.proofs.lower_if.Reads as lower-if-contract
+use Rattle.heads.proofs.may_put_in.Reads as may-put-in-contract
 use Rattle.heads.proofs.value_of.Reads as value-of-contract
 use Rattle.editing.proofs.bucketless_claim.Reads as bucketless-claim-contract
 use Rattle.editing.proofs.claim_to_pending.Reads as claim-to-pending-contract
@@ -437,6 +438,9 @@ lower = equation _
 
 pub lower-if : AtMostOne lower-if-contract.Post
 lower-if = equation _
+
+pub may-put-in : AtMostOne may-put-in-contract.Post
+may-put-in = equation _
 
 pub value-of : AtMostOne value-of-contract.Post
 value-of = equation _

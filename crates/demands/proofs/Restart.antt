@@ -22,7 +22,7 @@ use Rattle.image.specs.Images.{wholeSize, imageOf, InRange}
 use Rattle.image.specs.Keeping.{restoredFrom, keepable, keptAnswer, keptIn}
 use Rattle.image.specs.Applies.{isSoundImage, applyingRead, applyingWrite}
 use Rattle.image.proofs.Trips.{length-image, in-range, Accepted, accepted, refused-fresh, restored-sound, write-read, read-write, image-iff}
-use Rattle.image.proofs.Trips.{accepts-images, image-injective}
+use Rattle.image.proofs.Trips.{four-refused, accepts-images, image-injective}
 use Rattle.image.proofs.Written.{write-whole, write-untouched, write-first, write-past}
 use Rattle.image.proofs.Least.{read-number, read-plain, write-number, write-plain}
 use Rattle.demands.specs.Restart.{restored, Demand1Image, Demand1Keep, Demand2Image, Demand3Image}
@@ -45,6 +45,7 @@ demand1-image l = record {
     λ e. image-iff l bytes .0 (last-row (isSoundImage l) .0 e),
     λ t. last-row (isSoundImage l) .1 (image-iff l bytes .1 t),
   );
+  four = four-refused l;
   fresh = refused-fresh l;
   sound = restored-sound l;
 }

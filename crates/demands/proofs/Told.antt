@@ -1,6 +1,6 @@
--- What the history tells of a page, step by step: counts, storage, the loader and its bucket, the exclusive holder's bucket, and the
--- values handed out. Each step keeps it (one entry for each number), a refusal changes neither page nor history's sums, so it holds
--- after any requests. Assumes nothing.
+-- What the history tells of a page, step by step: counts, storage, the loader and its bucket, the exclusive holder's bucket, the value
+-- that it keeps, and the values handed out. Each step keeps it (one entry for each number), a refusal changes neither page nor
+-- history's sums, so it holds after any requests. Assumes nothing.
 use Prim.Native.Nat.{ℕ, _+_, _≤_, _<_}
 use mathlib.Core.Path.{_≡_, refl, sym, _∙_}
 use mathlib.Core.Bool.{Bool, true, false, not, cond, _&&_}
@@ -20,12 +20,13 @@ use Rattle.readers.specs.Listed.{live, findIn}
 use Rattle.readers.proofs.First.{found}
 use Rattle.page_record.specs.declared.{Head.Head, Page.Page}
 use Rattle.page_record.specs.Holders.{isStored, hasBucket, validBucket, noExc, isClaim, isAwait, isPending, isEditing, excBucket}
-use Rattle.page_record.specs.Holders.{noLoad, loadingBucket, valueOf, excValue}
+use Rattle.page_record.specs.Holders.{noLoad, isLoading, loadingBucket, valueOf, excValue}
 use Rattle.page_record.specs.Pages.{numberAt, headOf}
 use Rattle.page_record.specs.References.{refAt}
 use Rattle.page_record.proofs.Inversions.{is-claim, is-await, is-pending, is-editing, is-waiting, is-counted, is-loading}
 use Rattle.soundness.specs.Soundness.{soundOf}
 use Rattle.soundness.proofs.Facts.{Sound}
+use Rattle.soundness.proofs.Shapes.{rules-of, loads-alone}
 use Rattle.soundness.proofs.Tested.{facts}
 use Rattle.soundness.proofs.Known.{known, listed-counted}
 use Rattle.requests.specs.declared.{Request.Request, Answer.Answer, Verdict.Verdict, Refusal.Refusal}
@@ -43,17 +44,19 @@ use Rattle.lock.proofs.Keeps.Counts.{number-raise, number-lower}
 use Rattle.lock.proofs.Exact.Granted.{granted, exc-within}
 use Rattle.lock.proofs.Keeps.{step-keeps}
 use Rattle.demands.specs.History.{Event, Start, startOf, event, after, history, arrivals, departures, lastPut}
-use Rattle.demands.specs.History.{lastWithdrew, lastCounted, countedSince, editorNamed, HandedOut}
+use Rattle.demands.specs.History.{lastTaken, lastWithdrew, lastCounted, countedSince, editorNamed, HandedOut}
 
 -- ---- what is told
 -- of the counts, of storage and of the loader: where it has a bucket, the latest 13 named it, and since the latest 11 or 12; where it
--- has none, there was no 13 since. And of the exclusive holder, where there is one: its bucket, or that it has none
+-- has none, there was no 13 since. And of the exclusive holder, where there is one: its bucket, or that it has none; and what it keeps,
+-- where it has the page out
 pub record Told (start : Start) (cs : List Count) (s : Storage) (e : ExcState) (l : LoadingState) (past : List Event) : Type 0 where
   pub balance : (b : ℕ) → numberAt cs b + departures start b past ≡ start .counts b + arrivals b past
   pub stored : s ≡ cond (lastWithdrew start past) Storage.Out (Storage.In (lastPut start past))
   pub counted : T (hasBucket (loadingBucket l)) → lastCounted start past ≡ loadingBucket l
   pub since : T (not (noLoad l)) → countedSince start past ≡ hasBucket (loadingBucket l)
   pub edited : T (not (noExc e)) → editorNamed start past ≡ excBucket e
+  pub kept : T (isEditing e) → (excValue e ≡ lastPut start past) × (excValue e ≡ lastTaken start past)
   pub handed : HandedOut start past
 
 abbrev pub ToldOf : Start → Head → List Event → Type 0
@@ -76,7 +79,12 @@ even n = not (among raising n) && not (among leaving n) && not (among (17 ∷ []
 
 -- one that none of the words on storage and on the loader names
 abbrev calm : ℕ → Bool
-calm n = not (among (13 ∷ []) n) && not (among puttingIn n) && not (among handingOut n) && not (among fetching n)
+calm n =
+    not (among (13 ∷ []) n)
+    && not (among puttingIn n)
+    && not (among handingOut n)
+    && not (among fetching n)
+    && not (among (8 ∷ []) n)
 
 -- one that of these words the one on what is put in names alone
 abbrev putsOnly : ℕ → Bool
@@ -129,28 +137,36 @@ module _ (start : Start) (h : Head) (l : List Reader) (b : Bucket) (clean value 
   none-out : {A : Type 0} → (⊥ → A) × HandedOut start past
   none-out = (λ t. absurd t, told .handed)
 
+  -- what is told of an exclusive holder that has the page out
+  abbrev Kept : ExcState → Type 0
+  Kept e = (excValue e ≡ lastPut start past) × (excValue e ≡ lastTaken start past)
+
   -- a step that leaves storage and the loader: only its counts and the exclusive holder are told anew
   recounts : (n : ℕ) {cs : List Count} {e : ExcState} → T (calm n)
       → ((x : ℕ) → numberAt cs x + departures start x (took n) ≡ start .counts x + arrivals x (took n))
       → (T (not (noExc e)) → editorNamed start (took n) ≡ excBucket e)
+      → (T (isEditing e) → Kept e)
       → Told start cs (h .storage) e (h .«loading_state») (took n)
-  recounts n t balance edited =
+  recounts n t balance edited kept =
       let u = simp and-iff at t in
-      let counts = to-false (among (13 ∷ []) n) (u .0 .0 .0) in
-      let puts = to-false (among puttingIn n) (u .0 .0 .1) in
-      let takes = to-false (among handingOut n) (u .0 .1) in
-      let fetches = to-false (among fetching n) (u .1) in
+      let counts = to-false (among (13 ∷ []) n) (u .0 .0 .0 .0) in
+      let puts = to-false (among puttingIn n) (u .0 .0 .0 .1) in
+      let hands = to-false (among handingOut n) (u .0 .0 .1) in
+      let fetches = to-false (among fetching n) (u .0 .1) in
+      let takes = to-false (among (8 ∷ []) n) (u .1) in
       record {
         balance = balance;
-        stored = rw (takes, puts) (told .stored);
+        stored = rw (hands, puts) (told .stored);
         counted = λ w. rw counts (told .counted w);
         since = λ w. rw (counts, fetches) (told .since w);
         edited = edited;
+        kept = λ w. rw (puts, takes) (kept w);
         handed = none-out;
       }
 
   -- .. and one that leaves the counts too
   stays : (n : ℕ) {e : ExcState} → T (even n) → T (calm n) → (T (not (noExc e)) → editorNamed start (took n) ≡ excBucket e)
+      → (T (isEditing e) → Kept e)
       → Told start (h .«ref_counts») (h .storage) e (h .«loading_state») (took n)
   stays n t =
       let u = simp and-iff at t in
@@ -160,12 +176,13 @@ module _ (start : Start) (h : Head) (l : List Reader) (b : Bucket) (clean value 
       let gives = to-false (among givingBack n) (u .1) in
       λ w. recounts n w λ x. rw (raises, leaves, done, gives) (same x)
 
-  -- a step that puts the value in, and leaves the loader
+  -- a step that puts the value in, and leaves the loader: no exclusive holder has the page out after it
   puts : (n : ℕ) {cs : List Count} {e : ExcState} → T (putsOnly n)
       → ((x : ℕ) → numberAt cs x + departures start x (took n) ≡ start .counts x + arrivals x (took n))
       → (T (not (noExc e)) → editorNamed start (took n) ≡ excBucket e)
+      → (T (isEditing e) → ⊥)
       → Told start cs (Storage.In value) e (h .«loading_state») (took n)
-  puts n t balance edited =
+  puts n t balance edited gone =
       let u = simp and-iff at t in
       let puts = to-true (among puttingIn n) (u .0 .0 .0) in
       let counts = to-false (among (13 ∷ []) n) (u .0 .0 .1) in
@@ -177,6 +194,7 @@ module _ (start : Start) (h : Head) (l : List Reader) (b : Bucket) (clean value 
         counted = λ w. rw counts (told .counted w);
         since = λ w. rw (counts, fetches) (told .since w);
         edited = edited;
+        kept = λ w. absurd (gone w);
         handed = none-out;
       }
 
@@ -206,7 +224,8 @@ module _ (start : Start) (h : Head) (l : List Reader) (b : Bucket) (clean value 
     counted = told .counted;
     since = told .since;
     edited = λ w. locks (t .0);
-    handed = (λ w. was-put (excValue (h .«exc_state»)) (known s .pending-in (t .0)), told .handed);
+    kept = λ w. (was-put (excValue exc) (known s .pending-in (t .0)), refl);
+    handed = (λ w. was-put (excValue exc) (known s .pending-in (t .0)), told .handed);
   }
 
   told11 : Entry 11
@@ -216,6 +235,7 @@ module _ (start : Start) (h : Head) (l : List Reader) (b : Bucket) (clean value 
     counted = λ w. absurd w;
     since = λ w. refl;
     edited = told .edited;
+    kept = told .kept;
     handed = (λ w. was-put (valueOf (h .storage)) (known s .unmapped-in (t .0)), told .handed);
   }
 
@@ -226,6 +246,7 @@ module _ (start : Start) (h : Head) (l : List Reader) (b : Bucket) (clean value 
     counted = λ w. absurd w;
     since = λ w. refl;
     edited = told .edited;
+    kept = told .kept;
     handed = (λ w. was-put (valueOf (h .storage)) (known s .unmapped-in (t .0)), told .handed);
   }
 
@@ -236,6 +257,7 @@ module _ (start : Start) (h : Head) (l : List Reader) (b : Bucket) (clean value 
     counted = λ w. refl;
     since = λ w. refl;
     edited = told .edited;
+    kept = told .kept;
     handed = none-out;
   }
 
@@ -246,6 +268,7 @@ module _ (start : Start) (h : Head) (l : List Reader) (b : Bucket) (clean value 
     counted = told .counted;
     since = λ w. told .since (rw (is-counted (h .«loading_state») (t .0)) tt);
     edited = told .edited;
+    kept = told .kept;
     handed = none-out;
   }
 
@@ -258,8 +281,17 @@ module _ (start : Start) (h : Head) (l : List Reader) (b : Bucket) (clean value 
         counted = λ w. absurd w;
         since = λ w. rw waits at (told .since (rw waits tt));
         edited = told .edited;
+        kept = told .kept;
         handed = none-out;
       }
+
+  -- beside a loader no editor has the page out
+  alone : T (isLoading (h .«loading_state»)) → T (isEditing exc) → ⊥
+  alone t w =
+      let loads = h .«loading_state» in
+      let rules = rules-of (h .storage) exc loads (h .«writeback_state») (h .flag) (s .head) in
+      let none = loads-alone exc (h .storage) loads (h .«writeback_state») (rules .exc) (rw (is-loading loads t)) in
+      rw none at w
 
   told16 : Entry 16
   told16 t = record {
@@ -268,6 +300,7 @@ module _ (start : Start) (h : Head) (l : List Reader) (b : Bucket) (clean value 
     counted = λ w. absurd w;
     since = λ w. absurd w;
     edited = told .edited;
+    kept = λ w. absurd (alone (t .0) w);
     handed = none-out;
   }
 
@@ -307,50 +340,52 @@ module _ (start : Start) (h : Head) (l : List Reader) (b : Bucket) (clean value 
         counted = λ w. absurd w;
         since = λ w. absurd w;
         edited = told .edited;
+        kept = λ w. absurd (alone (t .0) w);
         handed = none-out;
       }
 
   told18 : Entry 18
-  told18 t = recounts 18 tt (λ x. omega (arith, raised-balance x)) λ w. refl
+  told18 t = recounts 18 tt (λ x. omega (arith, raised-balance x)) (λ w. refl) λ w. told .kept (t .0)
 
   told19 : Entry 19
-  told19 t = recounts 19 tt (λ x. omega (arith, raised-balance x)) (told .edited)
+  told19 t = recounts 19 tt (λ x. omega (arith, raised-balance x)) (told .edited) (told .kept)
 
   told20 : Entry 20
   unfolding lookFor soughtOf
-  told20 t = recounts 20 tt (λ x. omega (arith, lowered-balance (found-counted Phase.Pending (t .0)) x)) (told .edited)
+  told20 t = recounts 20 tt (λ x. omega (arith, lowered-balance (found-counted Phase.Pending (t .0)) x)) (told .edited) (told .kept)
 
   told21 : Entry 21
   unfolding lookFor soughtOf
-  told21 t = recounts 21 tt (λ x. omega (arith, lowered-balance (found-counted Phase.Pending2 (t .0)) x)) (told .edited)
+  told21 t = recounts 21 tt (λ x. omega (arith, lowered-balance (found-counted Phase.Pending2 (t .0)) x)) (told .edited) (told .kept)
 
   told22 : Entry 22
   unfolding lookFor soughtOf
-  told22 t = recounts 22 tt (λ x. omega (arith, lowered-balance (found-counted (Phase.Obtained value) (t .0)) x)) (told .edited)
+  told22 t =
+      recounts 22 tt (λ x. omega (arith, lowered-balance (found-counted (Phase.Obtained value) (t .0)) x)) (told .edited) (told .kept)
 
   entries : Below pastLast Entry
   entries =
       (λ t. absurd (t .0))
-      & (λ t. stays 1 tt tt (told .edited))
-      & (λ t. stays 2 tt tt (told .edited))
-      & (λ t. stays 3 tt tt λ w. refl)
-      & (λ t. stays 4 tt tt λ w. refl)
-      & (λ t. stays 5 tt tt λ w. claims (t .0))
-      & (λ t. stays 6 tt tt λ w. awaits (t .1 .0))
-      & (λ t. stays 7 tt tt λ w. locks (t .0))
+      & (λ t. stays 1 tt tt (told .edited) (told .kept))
+      & (λ t. stays 2 tt tt (told .edited) (told .kept))
+      & (λ t. stays 3 tt tt (λ w. refl) λ w. absurd w)
+      & (λ t. stays 4 tt tt (λ w. refl) λ w. absurd w)
+      & (λ t. stays 5 tt tt (λ w. claims (t .0)) λ w. absurd w)
+      & (λ t. stays 6 tt tt (λ w. awaits (t .1 .0)) λ w. absurd w)
+      & (λ t. stays 7 tt tt (λ w. locks (t .0)) λ w. absurd w)
       & told8
-      & (λ t. puts 9 tt same λ w. absurd w)
-      & (λ t. puts 10 tt same λ w. edits (t .0))
+      & (λ t. puts 9 tt same (λ w. absurd w) λ w. w)
+      & (λ t. puts 10 tt same (λ w. edits (t .0)) λ w. w)
       & told11 & told12 & told13 & told14 & told15 & told16
       & told17 & told18 & told19 & told20 & told21 & told22
-      & (λ t. stays 23 tt tt (told .edited))
-      & (λ t. stays 24 tt tt (told .edited))
-      & (λ t. recounts 25 tt (exc-left (claims (t .0))) λ w. absurd w)
-      & (λ t. stays 26 tt tt λ w. absurd w)
-      & (λ t. stays 27 tt tt λ w. awaits (t .0))
-      & (λ t. stays 28 tt tt λ w. locks (t .0))
-      & (λ t. puts 29 tt (exc-left (edits (t .0))) λ w. absurd w)
-      & (λ t. puts 30 tt (exc-left (edits (t .0))) λ w. absurd w)
+      & (λ t. stays 23 tt tt (told .edited) (told .kept))
+      & (λ t. stays 24 tt tt (told .edited) (told .kept))
+      & (λ t. recounts 25 tt (exc-left (claims (t .0))) (λ w. absurd w) λ w. absurd w)
+      & (λ t. stays 26 tt tt (λ w. absurd w) λ w. absurd w)
+      & (λ t. stays 27 tt tt (λ w. awaits (t .0)) λ w. absurd w)
+      & (λ t. stays 28 tt tt (λ w. locks (t .0)) λ w. absurd w)
+      & (λ t. puts 29 tt (exc-left (edits (t .0))) (λ w. absurd w) λ w. w)
+      & (λ t. puts 30 tt (exc-left (edits (t .0))) (λ w. absurd w) λ w. w)
       & tt
 
 -- ---- one request
@@ -364,6 +399,7 @@ refused-tells start h past q why told =
       counted = λ t. rw (refusal-positive why) (told .counted t);
       since = λ t. rw (refusal-positive why) (told .since t);
       edited = λ t. rw (refusal-positive why) (told .edited t);
+      kept = λ t. rw (refusal-positive why) (told .kept t);
       handed = (λ t. absurd t, told .handed);
     }
 
@@ -408,16 +444,18 @@ tells start p past (q ∷ qs) sound told =
     tells start (stepOf p q .page) (event p q ∷ past) qs (step-keeps p q sound) (step-tells start p q past sound told)
 
 -- at the start nothing has happened
-pub start-told : (p : Page) → ToldOf (startOf p) (headOf p) []
-start-told p = record {
+pub start-told : (p : Page) → T (soundOf p) → ToldOf (startOf p) (headOf p) []
+start-told p sound = record {
   balance = λ b. refl;
   stored = as-kept (p .storage);
   counted = λ t. refl;
   since = λ t. refl;
   edited = λ t. refl;
+  kept = λ t. let out = granted (headOf p) (facts p sound .parts .head) .editing t in (rw out, rw out);
   handed = tt;
 }
   where
-    as-kept : (s : Storage) → s ≡ cond (not (isStored s)) Storage.Out (Storage.In (valueOf s))
+    as-kept : (s : Storage)
+        → s ≡ cond (not (isStored s)) Storage.Out (Storage.In (cond (isStored s) (valueOf s) (excValue (p .«exc_state»))))
     as-kept Storage.Out = refl
     as-kept (Storage.In v) = refl

@@ -1,4 +1,4 @@
--- The worked cases A to H and K to M of RULES 10 as one table: what each request is answered, and what is said of the record then; the
+-- The worked cases A to H and K to O of RULES 10 as one table: what each request is answered, and what is said of the record then; the
 -- departures of K and L; and case A as the bytes of a run.
 use Prim.Native.Nat.{ℕ, _+_}
 use mathlib.Core.Bool.{Bool, true, false, not, _&&_, Bool·beq}
@@ -186,6 +186,18 @@ caseG = no (at 19 4) Refusal.BadBucket ∷ ok (at 19 3) (flagIs Flag.Unmapped �
 abbrev pub caseH : List Row
 caseH = no (at 24 0) Refusal.NoHolder ∷ no (plain 2) Refusal.NoHolder ∷ []
 
+-- from a claim with 5 on: an editor closes the page, clean or not, looks at every bucket, and has the page out
+abbrev pub toOut : ℕ → List Row
+toOut said =
+    ok (plain 5) []
+    ∷ ok (clean said) []
+    ∷ ok (plain 7) []
+    ∷ ok (plain 7) []
+    ∷ ok (plain 7) []
+    ∷ ok (plain 7) []
+    ∷ out (plain 8) 5 (isOut ∷ [])
+    ∷ []
+
 -- an editor without a bucket has the page out
 abbrev pub toEditor : List Row
 toEditor =
@@ -194,14 +206,7 @@ toEditor =
     ∷ ok (plain 14) []
     ∷ ok (put 17 5) (countsAre 0 0 0 0 ∷ [])
     ∷ ok (plain 3) []
-    ∷ ok (plain 5) []
-    ∷ ok (clean 0) []
-    ∷ ok (plain 7) []
-    ∷ ok (plain 7) []
-    ∷ ok (plain 7) []
-    ∷ ok (plain 7) []
-    ∷ out (plain 8) 5 (isOut ∷ [])
-    ∷ []
+    ∷ toOut 0
 
 -- it gives the page back as unmapped, and the page is loaded anew
 abbrev pub caseK : List Row
@@ -260,7 +265,46 @@ caseMBeside =
     ∷ ok (plain 2) (flagIs Flag.Available ∷ [])
     ∷ []
 
--- C goes on from B, D from C, E from D; L and M from B
+-- an editor takes the page at 1
+abbrev pub toTaken : ℕ → List Row
+toTaken said = ok (ask 4 1 0 5) [] ∷ toOut said
+
+-- a clean one puts in what it took
+abbrev pub caseN : List Row
+caseN =
+    toTaken 1
+    ++ no (put 10 6) Refusal.OtherValue
+    ∷ no (put 29 6) Refusal.OtherValue
+    ∷ no (put 30 6) Refusal.OtherValue
+    ∷ no (put 9 6) Refusal.OtherValue
+    ∷ ok (put 9 5) (flagIs Flag.Available ∷ storedIs 5 ∷ listIs (obtainedAt 1 5 ∷ []) ∷ countsAre 0 1 0 0 ∷ [])
+    ∷ []
+
+-- a dirty one the same, or another
+abbrev pub caseNSame : List Row
+caseNSame = toTaken 0 ++ ok (put 9 5) (flagIs Flag.Available ∷ storedIs 5 ∷ []) ∷ []
+
+abbrev pub caseNOther : List Row
+caseNOther = toTaken 0 ++ ok (put 10 6) (flagIs Flag.Claimed ∷ storedIs 6 ∷ []) ∷ []
+
+-- what is kept stays when a bucket comes, and whether it is clean is said anew
+abbrev pub caseO : List Row
+caseO =
+    (ok (ask 22 1 0 5) (countsAre 0 0 0 0 ∷ []) ∷ ok (plain 3) [] ∷ toOut 1)
+    ++ (no (put 9 6) Refusal.WrongBucket
+    ∷ no (put 29 6) Refusal.OtherValue
+    ∷ ok (at 18 2) (countsAre 0 0 1 0 ∷ [])
+    ∷ no (put 9 6) Refusal.OtherValue
+    ∷ no (put 30 6) Refusal.OtherValue
+    ∷ ok (put 10 5) (flagIs Flag.Claimed ∷ storedIs 5 ∷ [])
+    ∷ ok (plain 5) []
+    ∷ ok (clean 1) []
+    ∷ ok (plain 28) []
+    ∷ toOut 0)
+    ++ ok (put 30 6) (flagIs Flag.Unmapped ∷ storedIs 6 ∷ countsAre 0 0 0 0 ∷ [])
+    ∷ []
+
+-- C goes on from B, D from C, E from D; L to O from B
 abbrev pub workedCases : List (List Row)
 workedCases =
     casesA
@@ -273,6 +317,10 @@ workedCases =
     ∷ (caseB ++ caseL)
     ∷ (caseB ++ caseM)
     ∷ (caseB ++ caseMBeside)
+    ∷ (caseB ++ caseN)
+    ∷ (caseB ++ caseNSame)
+    ∷ (caseB ++ caseNOther)
+    ∷ (caseB ++ caseO)
     ∷ []
 
 -- ---- how often a case departs from each bucket

@@ -13,7 +13,8 @@ use Rattle.page_record.specs.declared.Page.{Page}
 use Rattle.page_record.specs.Holders.{isStored, isClaim, isAwait, isPending, isEditing, excValue}
 use Rattle.page_record.specs.Pages.{numberAt}
 use Rattle.page_record.specs.References.{countAllRefs}
-use Rattle.demands.specs.History.{Event, Start, arrivals, departures, lastPut, lastWithdrew, HandedOut, HandOuts}
+use Rattle.demands.specs.History.{Event, Start, arrivals, departures, lastPut, lastTaken, lastWithdrew, HandedOut}
+use Rattle.demands.specs.History.{HandOuts}
 
 -- a listed reader: it stands at a place below the length
 pub record Listed (p : Page) (r : Reader) : Type 0 where
@@ -37,8 +38,12 @@ pub record Demand3 (start : Start) (p : Page) (past : List Event) : Type 0 where
   -- by a claimant (Claim, PendingAwaitWriteback, Pending),
   pub claimed : T (isClaim (p .«exc_state») || isAwait (p .«exc_state») || isPending (p .«exc_state»))
       → excValue (p .«exc_state») ≡ lastPut start past
-  -- by the writeback;
+  -- by the writeback,
   pub written : (v : ℕ) → p .«writeback_state» ≡ WritebackState.Held v → v ≡ lastPut start past
+  -- and by an editor that has the page out, which keeps what it took:
+  pub kept : T (isEditing (p .«exc_state»)) → excValue (p .«exc_state») ≡ lastPut start past
+  -- that is the last value taken, too;
+  pub taken : T (isEditing (p .«exc_state»)) → excValue (p .«exc_state») ≡ lastTaken start past
   -- and so is every value that was returned, at its moment;
   pub returned : HandedOut start past
   -- one was returned just where an 8, 11 or 12 was accepted

@@ -1,7 +1,7 @@
 -- What shows that no statement is empty: a sound record for each flag and each kind of holder, each step accepted somewhere, each rule
--- broken alone somewhere, pages that were read and go on, each number given somewhere (15 and 16 by the samples of `image`), and each
--- number that 25 to 30 can answer by each of them. Last, where soundness and demand 3 see nothing, under which flags a flag premise
--- refuses.
+-- broken alone somewhere, pages that were read and go on, each number given somewhere (15 and 16 by the samples of `image`), each
+-- number that 25 to 30 can answer by each of them, and what a clean editor and a dirty one may put in. Last, where soundness and
+-- demand 3 see nothing, under which flags a flag premise refuses.
 use Prim.Native.Nat.{ℕ, zero, suc, _+_, _-_, _*_, _/_}
 use mathlib.Core.Bool.{Bool, true, false, not, cond, _&&_, Bool·beq}
 use mathlib.Core.List.{List, [], _∷_, _++_, map}
@@ -23,11 +23,12 @@ use Rattle.requests.specs.declared.{Request.Request, Verdict.Verdict}
 use Rattle.requests.specs.Answers.{answerNumber}
 use Rattle.requests.specs.Requests.{lastStep}
 use Rattle.heads.specs.Setters.{withNumber}
+use Rattle.lock.specs.Words.{puttingBack}
 use Rattle.lock.specs.Step.{stepOf}
 use Rattle.wire.specs.Buffers.{answerFor}
 use Rattle.replay.specs.Run.{runVerdict}
 use Rattle.image.specs.Keeping.{restoredFrom}
-use Rattle.image.specs.Samples.{Sample, claim, editing, counted, loading, prefetch, value}
+use Rattle.image.specs.Samples.{Sample, claim, editing, editingClean, counted, loading, prefetch, value}
 use Rattle.demands.specs.History.{after, history, startOf, departures, lastWithdrew}
 use Rattle.demands.specs.Cases.{ask, plain, at, put, clean, flagIs, pendingAt}
 
@@ -104,15 +105,21 @@ claimsAt2 = comesThrough ++ ask 4 2 0 5 ∷ []
 abbrev pub claimsBare : List Request
 claimsBare = fills ++ plain 3 ∷ []
 
--- from a claim on: the editor waits, closes the page, looks at every bucket, has the page out
+-- from a claim on: the editor waits, closes the page as dirty or as clean, looks at every bucket, has the page out
 abbrev pub awaits : List Request
 awaits = plain 5 ∷ []
 
 abbrev pub closes : List Request
 closes = awaits ++ clean 0 ∷ []
 
+abbrev pub takes : List Request
+takes = plain 7 ∷ plain 7 ∷ plain 7 ∷ plain 7 ∷ plain 8 ∷ []
+
 abbrev pub edits : List Request
-edits = closes ++ plain 7 ∷ plain 7 ∷ plain 7 ∷ plain 7 ∷ plain 8 ∷ []
+edits = closes ++ takes
+
+abbrev pub editsClean : List Request
+editsClean = awaits ++ clean 1 ∷ takes
 
 -- every kind of holder, with a bucket and without where it may have none
 abbrev pub holders : List Exhibit
@@ -123,8 +130,8 @@ holders =
     ∷ record { requests = claimsAt2 ++ awaits; shows = editorIs 2 true }
     ∷ record { requests = claimsBare ++ closes; shows = editorIs 3 false }
     ∷ record { requests = claimsAt2 ++ closes; shows = editorIs 3 true }
-    ∷ record { requests = claimsBare ++ edits; shows = editorIs 4 false }
-    ∷ record { requests = claimsAt2 ++ edits; shows = editorIs 4 true }
+    ∷ record { requests = claimsBare ++ edits; shows = editorIs 5 false }
+    ∷ record { requests = claimsAt2 ++ edits; shows = editorIs 5 true }
     ∷ record { requests = plain 11 ∷ []; shows = loaderIs 1 false }
     ∷ record { requests = plain 11 ∷ at 13 1 ∷ []; shows = loaderIs 2 true }
     ∷ record { requests = plain 12 ∷ []; shows = loaderIs 3 false }
@@ -220,7 +227,7 @@ resumes r =
 
 -- a loader that was read with a bucket leaves it; one that has none leaves none; a reader that was read leaves its own; a claimant that
 -- was read leaves the bucket that it was read with, and the next one its own; an editor that was read without one leaves none, or the
--- one that it got since by an 18, which says nothing of a claimant that comes after it
+-- one that it got since by an 18, which says nothing of a claimant that comes after it; a clean one puts in the value that was read
 abbrev pub resumed : List Resumed
 resumed =
     record { from = loading; requests = put 17 5 ∷ []; departs = 1 ∷ 0 ∷ 0 ∷ 0 ∷ [] }
@@ -234,6 +241,8 @@ resumed =
     ∷ record { from = editing; requests = put 29 6 ∷ []; departs = 0 ∷ 0 ∷ 0 ∷ 0 ∷ [] }
     ∷ record { from = editing; requests = at 18 1 ∷ put 30 6 ∷ []; departs = 0 ∷ 1 ∷ 0 ∷ 0 ∷ [] }
     ∷ record { from = editing; requests = at 18 1 ∷ put 29 6 ∷ plain 3 ∷ plain 25 ∷ []; departs = 0 ∷ 1 ∷ 0 ∷ 0 ∷ [] }
+    ∷ record { from = editingClean; requests = put 9 value ∷ []; departs = 0 ∷ 0 ∷ 0 ∷ 0 ∷ [] }
+    ∷ record { from = editingClean; requests = put 29 value ∷ []; departs = 0 ∷ 1 ∷ 0 ∷ 0 ∷ [] }
     ∷ []
 
 -- ---- each number is given somewhere
@@ -263,7 +272,7 @@ pub record Trial : Type 0 where
 abbrev pub answered : Trial → Bool
 answered t = eqb (answerNumber (stepOf (t .page) (t .request) .answer)) (t .number)
 
--- 0 to 11, in their order; the pages of 0 and of 2 to 11 are sound
+-- 0 to 11 and 17, in their order; the pages of 0 and of 2 to 17 are sound
 abbrev pub trials : List Trial
 trials =
     record { page = full; request = at 20 3; number = 0 }
@@ -278,6 +287,7 @@ trials =
     ∷ record { page = after (pageUnder Flag.ExcLockClean) (at 19 0 ∷ []); request = plain 7; number = 9 }
     ∷ record { page = crowded; request = at 19 0; number = 10 }
     ∷ record { page = full; request = at 19 0; number = 11 }
+    ∷ record { page = led (claimsBare ++ editsClean); request = put 29 6; number = 17 }
     ∷ []
 
 -- those of a run: 15 bytes; 2,049 requests; one request and 15 bytes for its answer; and one of none, of two and of 2,048 requests
@@ -304,7 +314,10 @@ fullClaimed =
 
 -- the numbers that 25 to 30 can answer, and no other (`returns-answer`): they are known steps, take no bucket and ask for no flag
 abbrev pub mayAnswer : ℕ → List ℕ
-mayAnswer n = cond (eqb n 26) (0 ∷ 1 ∷ 3 ∷ 6 ∷ 7 ∷ 11 ∷ []) (0 ∷ 1 ∷ 3 ∷ 6 ∷ [])
+mayAnswer n =
+    cond (eqb n 26) (0 ∷ 1 ∷ 3 ∷ 6 ∷ 7 ∷ 11 ∷ [])
+    (cond (among puttingBack n) (0 ∷ 1 ∷ 3 ∷ 6 ∷ 17 ∷ [])
+    (0 ∷ 1 ∷ 3 ∷ 6 ∷ []))
 
 -- each of them is accepted, and answers each of these
 abbrev pub returns : List Trial
@@ -331,10 +344,12 @@ returns =
     ∷ record { page = lost; request = put 29 6; number = 1 }
     ∷ record { page = led (claimsBare ++ edits); request = ask 29 0 1 6; number = 3 }
     ∷ record { page = led (claimsBare ++ closes); request = put 29 6; number = 6 }
+    ∷ record { page = led (claimsBare ++ editsClean); request = put 29 6; number = 17 }
     ∷ record { page = led (claimsBare ++ edits); request = put 30 6; number = 0 }
     ∷ record { page = lost; request = put 30 6; number = 1 }
     ∷ record { page = led (claimsBare ++ edits); request = ask 30 1 0 6; number = 3 }
     ∷ record { page = freshPage 0; request = put 30 6; number = 6 }
+    ∷ record { page = led (claimsAt2 ++ editsClean); request = put 30 6; number = 17 }
     ∷ []
 
 -- there is a row for this step and this number
@@ -343,6 +358,56 @@ rowFor n number = not (every (λ (t : Trial). not (eqb (t .request .step) n && e
 
 abbrev pub everyReturnShown : Bool
 everyReturnShown = every answered returns && every (λ n. every (rowFor n) (mayAnswer n)) (upFrom 25 6)
+
+-- ---- what is put back
+-- a full list of readers that wait, beside a clean editor that has the page out at bucket 0, and keeps 5
+abbrev pub fullOut : Page
+fullOut =
+    pageOf
+    (headWith Storage.Out Flag.ExcLockClean (withNumber 0 (share + 1) (replicate buckets (record { 0 = share })))
+    (ExcState.Obtained (MaybeBucket.At (record { 0 = 0 })) true 5) LoadingState.None WritebackState.None)
+    (full .readers)
+
+-- a clean editor puts in what it took, 5, and no other value, with a bucket or without, and after 18 gave it one; a dirty one puts in
+-- either. 7 and 11 come before 17; the request's own clean is 3, before both
+abbrev pub putBacks : List Trial
+putBacks =
+    record { page = led (claimsAt2 ++ editsClean); request = put 9 5; number = 0 }
+    ∷ record { page = led (claimsAt2 ++ editsClean); request = put 9 6; number = 17 }
+    ∷ record { page = led (claimsAt2 ++ editsClean); request = ask 9 0 1 6; number = 3 }
+    ∷ record { page = led (claimsAt2 ++ edits); request = put 9 5; number = 0 }
+    ∷ record { page = led (claimsAt2 ++ edits); request = put 9 6; number = 0 }
+    ∷ record { page = led (claimsBare ++ editsClean); request = put 9 6; number = 7 }
+    ∷ record { page = led (claimsBare ++ editsClean ++ at 18 1 ∷ []); request = put 9 6; number = 17 }
+    ∷ record { page = led (claimsBare ++ editsClean ++ at 18 1 ∷ []); request = put 9 5; number = 0 }
+    ∷ record { page = fullOut; request = put 9 6; number = 11 }
+    ∷ record { page = fullOut; request = put 9 5; number = 11 }
+    ∷ record { page = fullOut; request = put 29 6; number = 17 }
+    ∷ record { page = led (claimsAt2 ++ editsClean); request = put 10 5; number = 0 }
+    ∷ record { page = led (claimsAt2 ++ editsClean); request = put 10 6; number = 17 }
+    ∷ record { page = led (claimsAt2 ++ edits); request = put 10 5; number = 0 }
+    ∷ record { page = led (claimsAt2 ++ edits); request = put 10 6; number = 0 }
+    ∷ record { page = led (claimsBare ++ editsClean); request = put 10 6; number = 7 }
+    ∷ record { page = led (claimsAt2 ++ editsClean); request = put 29 5; number = 0 }
+    ∷ record { page = led (claimsBare ++ editsClean); request = put 29 5; number = 0 }
+    ∷ record { page = led (claimsAt2 ++ editsClean); request = put 29 6; number = 17 }
+    ∷ record { page = led (claimsAt2 ++ edits); request = put 29 5; number = 0 }
+    ∷ record { page = led (claimsAt2 ++ editsClean); request = put 30 5; number = 0 }
+    ∷ record { page = led (claimsBare ++ editsClean); request = put 30 6; number = 17 }
+    ∷ record { page = led (claimsBare ++ edits); request = put 30 5; number = 0 }
+    ∷ []
+
+-- .. and each of these pages is sound
+abbrev pub everyPutBackShown : Bool
+everyPutBackShown = every answered putBacks && every (λ (t : Trial). soundOf (t .page)) putBacks
+
+-- a clean editor that has looked at every bucket, and what is asked once it has the page out: other values, a bucket, a reader, a loader's
+-- deposit; then it puts in what it took
+abbrev pub looked : Page
+looked = led (claimsBare ++ awaits ++ clean 1 ∷ plain 7 ∷ plain 7 ∷ plain 7 ∷ plain 7 ∷ [])
+
+abbrev pub meanwhile : List Request
+meanwhile = put 29 6 ∷ at 18 1 ∷ put 9 6 ∷ at 19 3 ∷ put 17 5 ∷ []
 
 -- ---- flag premises
 -- a request that is well formed, and the flags under which it is let through; under every other flag the answer is 5

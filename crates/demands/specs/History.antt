@@ -9,7 +9,7 @@ use lib.ListN.{length}
 use Rattle.laws.specs.Lists.{among}
 use Rattle.kinds.specs.declared.MaybeBucket.{MaybeBucket}
 use Rattle.page_record.specs.declared.Page.{Page}
-use Rattle.page_record.specs.Holders.{isStored, valueOf, hasBucket, excBucket, loadingBucket}
+use Rattle.page_record.specs.Holders.{isStored, valueOf, hasBucket, excBucket, excValue, loadingBucket}
 use Rattle.page_record.specs.Pages.{numberAt}
 use Rattle.page_record.specs.References.{refAt}
 use Rattle.requests.specs.declared.{Request.Request, Answer.Answer, Verdict.Verdict}
@@ -86,12 +86,17 @@ pub record Start : Type 0 where
   pub loader : MaybeBucket
   pub editor : MaybeBucket
 
--- a history that starts at this page. A page that is out was withdrawn just before, and then its loader named its bucket by a 13;
--- what was last put in is unknown then, and nobody holds a value. Its exclusive holder named its bucket by a 4
+-- what was put in last, as a page has it: storage's value, else the one that its exclusive holder keeps. For a page that is out with a
+-- loader it is unknown, and nobody holds or keeps a value
+abbrev pub putBefore : Page → ℕ
+putBefore p = cond (isStored (p .storage)) (valueOf (p .storage)) (excValue (p .«exc_state»))
+
+-- a history that starts at this page. A page that is out was withdrawn just before, and then its loader named its bucket by a 13. Its
+-- exclusive holder named its bucket by a 4
 abbrev pub startOf : Page → Start
 startOf p = record {
   counts = numberAt (p .«ref_counts»);
-  value = valueOf (p .storage);
+  value = putBefore p;
   out = not (isStored (p .storage));
   loader = loadingBucket (p .«loading_state»);
   editor = excBucket (p .«exc_state»);
@@ -143,6 +148,11 @@ module _ (start : Start) where
   abbrev pub lastPut : List Event → ℕ
   lastPut [] = start .value
   lastPut (e ∷ past) = cond (accepted puttingIn e) (e .request .value) (lastPut past)
+
+  -- the last value that an editor took: the one that the latest accepted 8 handed out, else the start's
+  abbrev pub lastTaken : List Event → ℕ
+  lastTaken [] = start .value
+  lastTaken (e ∷ past) = cond (accepted (8 ∷ []) e) (answerValue (e .answer)) (lastTaken past)
 
   -- hand-overs are those six and 8, 11, 12: whether the last one was a withdrawal
   abbrev pub lastWithdrew : List Event → Bool

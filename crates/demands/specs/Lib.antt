@@ -4,5 +4,6 @@ pub mod Demand2
 pub mod Demand3
 pub mod Before
 pub mod Restart
+pub mod Clean
 pub mod Cases
 pub mod Exhibits

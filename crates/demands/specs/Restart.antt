@@ -7,7 +7,7 @@ use mathlib.Core.Logic.{_↔_}
 use mathlib.Core.Bool.{false}
 use mathlib.Core.List.{List, [], _++_}
 use lib.Dec.{T}
-use lib.ListN.{length, drop}
+use lib.ListN.{length, drop, getD}
 use Rattle.laws.specs.Tables.{appliesIn, Lowest}
 use Rattle.kinds.specs.Limits.{capacity}
 use Rattle.page_record.specs.declared.Page.{Page}
@@ -39,6 +39,8 @@ pub record Demand1Image (l : List ℕ) : Type 0 where
   pub accepted : (restoredFrom l .answer ≡ Answer.Accepted) ↔ ((n : ℕ) → appliesIn (applyingRead l) n ≡ false)
   -- 16 does not apply just if they are the image of some sound page
   pub sixteen : Bytes l → (appliesIn (applyingRead l) 16 ≡ false) ↔ ImageOfSound l
+  -- an image's length of bytes with 4 at byte 4, where the exclusive holder's number stands: they don't say what was taken
+  pub four : length l ≡ wholeSize → getD l 4 0 ≡ 4 → restoredFrom l .answer ≡ Answer.Refused Refusal.NotAnImage
   -- a refusal gives a fresh page of 0, and whatever the bytes are the page that is given is sound
   pub fresh : (why : Refusal) → restoredFrom l .answer ≡ Answer.Refused why → restoredFrom l .page ≡ freshPage 0
   pub sound : T (soundOf (restoredFrom l .page))
@@ -76,5 +78,5 @@ pub record Demand3Image (l : List ℕ) : Type 0 where
   pub runs : (gs : List Given)
       → Demand3 (startOf (restoredFrom l .page)) (afterRuns (restoredFrom l .page) gs) (runsHistory (restoredFrom l .page) gs [])
   -- where its words are as if a 13 had named the loader's bucket just before and a 4 the exclusive holder's, each no arrival, and a page
-  -- that was read as out had been withdrawn
+  -- that was read as out had been withdrawn: for an editor by an 8, which handed out what it keeps
   pub as-if : (past : List Event) → AsIf (restoredFrom l .page) past

@@ -11,10 +11,12 @@ use image::WRITEBACK;
 use kinds::CAPACITY;
 use kinds::LINE;
 
-// The highest numbers that stand for a flag, an editor, a loader and a phase.
+// The highest numbers that stand for a flag, an editor, a loader and a phase; of an editor's, one below stands for nothing.
 const LAST_FLAG: u8 = 10;
 
-const LAST_EXC: u8 = 4;
+const LAST_EXC: u8 = 5;
+
+const NO_EXC: u8 = 4;
 
 const LAST_LOADER: u8 = 3;
 
@@ -34,8 +36,10 @@ pub fn is_known(payload: &[u8]) -> bool {
         }
     }
     let either = byte_at(payload, STORED) | byte_at(payload, CLEAN) | byte_at(payload, WRITEBACK);
+    let exc = byte_at(payload, EXC);
     (byte_at(payload, FLAG) <= LAST_FLAG)
-        & (byte_at(payload, EXC) <= LAST_EXC)
+        & (exc <= LAST_EXC)
+        & (exc != NO_EXC)
         & (byte_at(payload, LOADER) <= LAST_LOADER)
         & (either <= YES)
 }

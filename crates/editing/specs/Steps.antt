@@ -17,7 +17,7 @@ use Rattle.page_record.specs.Pages.{numberAt}
 use Rattle.page_record.specs.References.{refAt}
 use Rattle.requests.specs.declared.{Refusal.Refusal, Request.Request}
 use Rattle.heads.specs.declared.Edit.{Edit}
-use Rattle.heads.specs.Decisions.{Step, accepts, handsOut, isFound, placeOf, reader, under}
+use Rattle.heads.specs.Decisions.{Step, accepts, handsOut, isFound, placeOf, reader, under, mayPutIn}
 use Rattle.heads.specs.Setters.{withStorage, withFlag, withExc, withWriteback, raised}
 
 -- ---- the archive
@@ -81,12 +81,12 @@ takeExcLockCheckRefCount h =
     (withExc (ExcState.Pending (excBucket e) (record { 0 = visited + 1 }) (excClean e) (excValue e)) h)
     Edit.Keep
 
--- 8, line 237: hands the page out
+-- 8, line 237: hands the page out, and keeps its value
 abbrev pub withdrawTakeExcLockFinish : Head → Step
 withdrawTakeExcLockFinish h =
     let e = h .«exc_state» in
     handsOut ((Refusal.NoHolder, isPending e) ∷ (Refusal.WrongVisited, eqb (excVisited e .0) buckets) ∷ [])
-    (withStorage Storage.Out (withExc (ExcState.Obtained (excBucket e) (excClean e)) h))
+    (withStorage Storage.Out (withExc (ExcState.Obtained (excBucket e) (excClean e) (excValue e)) h))
     (excValue e)
 
 -- 9, line 247
@@ -94,7 +94,11 @@ abbrev pub depositDowngradeExcLock : Head → Request → Bool → Step
 depositDowngradeExcLock h q full =
     let e = h .«exc_state» in
     accepts
-    ((Refusal.NoHolder, isEditing e) ∷ (Refusal.WrongBucket, hasBucket (excBucket e)) ∷ (Refusal.ListFull, not full) ∷ [])
+    ((Refusal.NoHolder, isEditing e)
+    ∷ (Refusal.WrongBucket, hasBucket (excBucket e))
+    ∷ (Refusal.ListFull, not full)
+    ∷ (Refusal.OtherValue, mayPutIn (excClean e) (excValue e) (q .value))
+    ∷ [])
     (withFlag Flag.Available (withStorage (Storage.In (q .value)) (withExc ExcState.None h)))
     (Edit.Push (reader (Phase.Obtained (q .value)) (bucketOf (excBucket e))))
 
@@ -102,11 +106,15 @@ depositDowngradeExcLock h q full =
 abbrev pub depositDowngradeExcLockToClaim : Head → Request → Step
 depositDowngradeExcLockToClaim h q =
     let e = h .«exc_state» in
-    accepts ((Refusal.NoHolder, isEditing e) ∷ (Refusal.WrongBucket, hasBucket (excBucket e)) ∷ [])
+    accepts
+    ((Refusal.NoHolder, isEditing e)
+    ∷ (Refusal.WrongBucket, hasBucket (excBucket e))
+    ∷ (Refusal.OtherValue, mayPutIn (excClean e) (excValue e) (q .value))
+    ∷ [])
     (withFlag Flag.Claimed (withStorage (Storage.In (q .value)) (withExc (ExcState.Claim (excBucket e) (q .value)) h)))
     Edit.Keep
 
--- 18, line 356: an editor that has no bucket gets one
+-- 18, line 356: an editor that has no bucket gets one, and keeps its value
 abbrev pub excIncCount : Head → Request → Step
 excIncCount h q =
     let e = h .«exc_state» in
@@ -115,5 +123,5 @@ excIncCount h q =
     ∷ (Refusal.WrongBucket, not (hasBucket (excBucket e)))
     ∷ (Refusal.AtCeiling, under h (q .bucket .0))
     ∷ [])
-    (raised (q .bucket .0) (withExc (ExcState.Obtained (MaybeBucket.At (q .bucket)) (excClean e)) h))
+    (raised (q .bucket .0) (withExc (ExcState.Obtained (MaybeBucket.At (q .bucket)) (excClean e) (excValue e)) h))
     Edit.Keep

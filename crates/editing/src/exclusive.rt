@@ -1,6 +1,7 @@
 // The editor, from the end of its wait until it puts the page in: steps 6 to 10, and 18. It closes the page (6), looks at one
 // bucket after the other until it has found no reference but its own (7), and gets the page (8). It puts the page in and goes
-// on as a reader (9) or as a claimant (10), for which it needs a bucket: one that has none gets one first (18).
+// on as a reader (9) or as a claimant (10), for which it needs a bucket: one that has none gets one first (18). One that closed the
+// page as clean puts in what it got.
 ghost use mathlib.Core.Path.{_≡_};
 ghost use Rattle.heads.specs.Decisions.{decided};
 ghost use Rattle.editing.specs.Steps.{takeExcLockFinishWriteback, takeExcLockCheckRefCount};
@@ -10,6 +11,7 @@ use heads::Decision;
 use heads::Edit;
 use heads::deposit_exc;
 use heads::leave_exc;
+use heads::may_put_in;
 use heads::number_at;
 use heads::refuse;
 use heads::with_number;
@@ -84,7 +86,7 @@ pub fn take_exc_lock_check_ref_count(h: Head) -> Decision
     leave_exc(h, flag, pending, Edit::Keep)
 }
 
-// 8: every bucket was looked at; the page is handed out.
+// 8: every bucket was looked at; the page is handed out, and the editor keeps its version.
 pub fn withdraw_take_exc_lock_finish(h: Head) -> Decision
     ensures { λ r. ⌜ r ≡ decided h (withdrawTakeExcLockFinish h) ⌝ }
 {
@@ -101,7 +103,11 @@ pub fn withdraw_take_exc_lock_finish(h: Head) -> Decision
     if visited_count.0 != BUCKETS {
         return refuse(h, Refusal::WrongVisited);
     }
-    let obtained = ExcState::Obtained { bucket, clean };
+    let obtained = ExcState::Obtained {
+        bucket,
+        clean,
+        value,
+    };
     withdraw_exc(h, obtained, value)
 }
 
@@ -111,7 +117,12 @@ pub fn deposit_downgrade_exc_lock(h: Head, q: Request, full: bool) -> Decision
 {
     let exc = h.exc_state;
     let value = q.value;
-    let ExcState::Obtained { bucket, clean: _ } = exc else {
+    let ExcState::Obtained {
+        bucket,
+        clean,
+        value: kept,
+    } = exc
+    else {
         return refuse(h, Refusal::NoHolder);
     };
     let MaybeBucket::At(own) = bucket else {
@@ -119,6 +130,9 @@ pub fn deposit_downgrade_exc_lock(h: Head, q: Request, full: bool) -> Decision
     };
     if full {
         return refuse(h, Refusal::ListFull);
+    }
+    if !may_put_in(clean, kept, value) {
+        return refuse(h, Refusal::OtherValue);
     }
     let reader = Reader {
         phase: Phase::Obtained(value),
@@ -139,12 +153,20 @@ pub fn deposit_downgrade_exc_lock_to_claim(h: Head, q: Request) -> Decision
 {
     let exc = h.exc_state;
     let value = q.value;
-    let ExcState::Obtained { bucket, clean: _ } = exc else {
+    let ExcState::Obtained {
+        bucket,
+        clean,
+        value: kept,
+    } = exc
+    else {
         return refuse(h, Refusal::NoHolder);
     };
     let MaybeBucket::At(own) = bucket else {
         return refuse(h, Refusal::WrongBucket);
     };
+    if !may_put_in(clean, kept, value) {
+        return refuse(h, Refusal::OtherValue);
+    }
     let claim = ExcState::Claim {
         bucket: MaybeBucket::At(own),
         value,
@@ -159,7 +181,12 @@ pub fn exc_inc_count(h: Head, q: Request) -> Decision
     let flag = h.flag;
     let exc = h.exc_state;
     let at = q.bucket;
-    let ExcState::Obtained { bucket, clean } = exc else {
+    let ExcState::Obtained {
+        bucket,
+        clean,
+        value,
+    } = exc
+    else {
         return refuse(h, Refusal::NoHolder);
     };
     let MaybeBucket::None = bucket else {
@@ -172,6 +199,7 @@ pub fn exc_inc_count(h: Head, q: Request) -> Decision
     let obtained = ExcState::Obtained {
         bucket: MaybeBucket::At(at),
         clean,
+        value,
     };
     leave_exc(with_number(h, at, n + 1), flag, obtained, Edit::Keep)
 }

@@ -27,7 +27,7 @@ exc-tags ExcState.None = (refl, refl, refl, refl)
 exc-tags (ExcState.Claim bucket value) = (refl, refl, refl, refl)
 exc-tags (ExcState.PendingAwaitWriteback bucket value) = (refl, refl, refl, refl)
 exc-tags (ExcState.Pending bucket visited clean value) = (refl, refl, refl, refl)
-exc-tags (ExcState.Obtained bucket clean) = (refl, refl, refl, refl)
+exc-tags (ExcState.Obtained bucket clean value) = (refl, refl, refl, refl)
 
 abbrev loadingTag : LoadingState → ℕ
 loadingTag l = tagOf L.the-type l

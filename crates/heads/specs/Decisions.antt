@@ -1,9 +1,9 @@
 -- A step as a list of premises, what it answers where all hold, and what it leaves: of the head, and by its edit of the list of
 -- readers. What is decided of a head: the step, or the refusal of its first premise that fails.
 use Prim.Native.Nat.{ℕ}
-use mathlib.Core.Bool.{Bool, true, false}
+use mathlib.Core.Bool.{Bool, true, false, not, _||_}
 use mathlib.Core.List.{List}
-use lib.Dec.{ltb}
+use lib.Dec.{eqb, ltb}
 use Rattle.kinds.specs.declared.{Bucket.Bucket, Phase.Phase, Reader.Reader}
 use Rattle.kinds.specs.Limits.{ceiling}
 use Rattle.readers.specs.declared.Found.{Found}
@@ -42,6 +42,10 @@ reader phase bucket = record { phase = phase; bucket = bucket }
 -- the count at a bucket is below the ceiling
 abbrev pub under : Head → ℕ → Bool
 under h b = ltb (numberAt (h .«ref_counts») b) ceiling
+
+-- a holder that keeps this value may put that one in: if it is clean, no other than the one that it keeps
+abbrev pub mayPutIn : Bool → ℕ → ℕ → Bool
+mayPutIn clean kept value = not clean || eqb value kept
 
 -- ---- what is decided
 -- a refusal changes nothing

@@ -6,7 +6,7 @@ ghost use Rattle.page_record.specs.Holders.{valueOf};
 ghost use Rattle.page_record.specs.Pages.{numberAt};
 ghost use Rattle.heads.specs.Setters.{withStorage, withFlag, withCounts, withExc, withLoading, withWriteback};
 ghost use Rattle.heads.specs.Setters.{withNumber, lowered, loweredIf};
-ghost use Rattle.heads.specs.Decisions.{refused, decided, accepts, handsOut};
+ghost use Rattle.heads.specs.Decisions.{refused, decided, accepts, handsOut, mayPutIn};
 use kinds::BUCKETS;
 use kinds::Bucket;
 use kinds::Count;
@@ -227,6 +227,13 @@ pub fn lower_if(h: Head, own: MaybeBucket) -> Head
         MaybeBucket::None => h,
         MaybeBucket::At(bucket) => lower(h, bucket),
     }
+}
+
+// Whether a holder that keeps this value may put that one in: if it is clean, no other than the one that it keeps.
+pub fn may_put_in(clean: bool, kept: u64, value: u64) -> bool
+    ensures { λ r. ⌜ r ≡ mayPutIn clean kept value ⌝ }
+{
+    !clean | (value == kept)
 }
 
 // The source's storage.get_Some_0(); 0 where the page is out: a sound record doesn't come there.

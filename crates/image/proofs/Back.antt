@@ -69,9 +69,9 @@ exc-back (ExcState.PendingAwaitWriteback m v) t = ap (λ (x : MaybeBucket). ExcS
 exc-back (ExcState.Pending m n c v) t =
     ap (λ (x : MaybeBucket). ExcState.Pending x n (eqb (cond c 1 0) 1) v) (bucket-back m t)
     ∙ ap (λ (x : Bool). ExcState.Pending m n x v) (clean-back c)
-exc-back (ExcState.Obtained m c) t =
-    ap (λ (x : MaybeBucket). ExcState.Obtained x (eqb (cond c 1 0) 1)) (bucket-back m t)
-    ∙ ap (λ (x : Bool). ExcState.Obtained m x) (clean-back c)
+exc-back (ExcState.Obtained m c v) t =
+    ap (λ (x : MaybeBucket). ExcState.Obtained x (eqb (cond c 1 0) 1) v) (bucket-back m t)
+    ∙ ap (λ (x : Bool). ExcState.Obtained m x v) (clean-back c)
 
 pub loading-back : (l : LoadingState) → T (validBucket (loadingBucket l))
     → loadingFrom (loadingNumber l) (bucketFrom (loadingBucketNumber l)) ≡ l

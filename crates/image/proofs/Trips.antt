@@ -13,7 +13,7 @@ use lib.ListN.{length, take, drop, getD, replicate, length-append, length-take}
 use lib.Seq.{drop-at}
 use Rattle.laws.proofs.Tests.{to-true, is-true, both, halves, and-iff}
 use Rattle.kinds.specs.declared.{Visited.Visited, MaybeBucket.MaybeBucket, Storage.Storage, Phase.Phase, Reader.Reader}
-use Rattle.kinds.specs.declared.WritebackState.{WritebackState}
+use Rattle.kinds.specs.declared.{ExcState.ExcState, WritebackState.WritebackState}
 use Rattle.kinds.specs.Limits.{lineSize, capacity}
 use Rattle.kinds.specs.Numbers.{flagNumber, storageNumber, phaseNumber, excNumber, loadingNumber, writebackNumber}
 use Rattle.kinds.specs.Numbers.{flagFrom, storageFrom, bucketFrom, phaseFrom, excFrom, loadingFrom, writebackFrom}
@@ -88,7 +88,7 @@ head-back n p r s =
     let exc : excFrom (excNumber e) (bucketFrom (excBucketNumber e)) (excVisited e) (eqb (cond (excClean e) 1 0) 1)
     (number (lowBytes 8 (excValue e))) ≡ e =
     ap (excFrom (excNumber e) (bucketFrom (excBucketNumber e)) (excVisited e) (eqb (cond (excClean e) 1 0) 1))
-    (number-lowBytes 8 (excValue e) (r .claimed))
+    (number-lowBytes 8 (excValue e) (r .held))
     ∙ exc-back e (within .0 .0) in
     let writes : writebackFrom (writebackNumber w) (number (lowBytes 8 (writebackValue w))) ≡ w =
     ap (writebackFrom (writebackNumber w)) (number-lowBytes 8 (writebackValue w) (r .written)) ∙ writeback-back w in
@@ -216,7 +216,8 @@ exc-below (suc zero) m x c v h = h
 exc-below (suc (suc zero)) m x c v h = h
 exc-below (suc (suc (suc zero))) m x c v h = h
 exc-below (suc (suc (suc (suc zero)))) m x c v h = omega arith
-exc-below (suc (suc (suc (suc (suc n))))) m x c v h = omega arith
+exc-below (suc (suc (suc (suc (suc zero))))) m x c v h = h
+exc-below (suc (suc (suc (suc (suc (suc n)))))) m x c v h = omega arith
 
 readers-below : (n : ℕ) (l : List ℕ) → Bytes l → Ranged (readersFrom n l)
 unfolding readersFrom readerFrom
@@ -234,7 +235,7 @@ pub in-range : (l : List ℕ) → Bytes l → InRange (pageFrom l)
 unfolding pageFrom headFrom excFromBytes
 in-range l bytes = record {
   stored = storage-below (getD l 1 0) (u64At 32 l) (u64-below l bytes 32);
-  claimed = exc-below (getD l 4 0) (bucketFrom (getD l 5 0)) (record { 0 = getD l 6 0 }) (eqb (getD l 7 0) 1) (u64At 40 l) (u64-below l bytes 40);
+  held = exc-below (getD l 4 0) (bucketFrom (getD l 5 0)) (record { 0 = getD l 6 0 }) (eqb (getD l 7 0) 1) (u64At 40 l) (u64-below l bytes 40);
   written = writeback-below (getD l 10 0) (u64At 48 l) (u64-below l bytes 48);
   read = ranged-take (lengthFrom l) (readersFrom capacity (drop headSize l))
       (readers-below capacity (drop headSize l) (bytes-drop headSize l bytes));
@@ -282,6 +283,31 @@ restored-sound l = go (readVerdict (pageFrom l) l) refl
     go : (v : Verdict) → readVerdict (pageFrom l) l ≡ v → T (soundOf (restoredAs (pageFrom l) v .page))
     go Verdict.Passed f = halves (soundOf (pageFrom l)) (isImage (pageFrom l) l) (passed (readable (pageFrom l) l) f .1 .0) .0
     go (Verdict.Failed why) f = fresh-sound 0
+
+-- 4 is no exclusive holder's number, so no image has it at byte 4, and bytes that have it there are refused
+no-number-4 : (e : ExcState) → excNumber e ≡ 4 → ⊥
+no-number-4 ExcState.None e = omega arith
+no-number-4 (ExcState.Claim m v) e = omega arith
+no-number-4 (ExcState.PendingAwaitWriteback m v) e = omega arith
+no-number-4 (ExcState.Pending m n c v) e = omega arith
+no-number-4 (ExcState.Obtained m c v) e = omega arith
+
+byte-4 : (n : ℕ) (p : Page) → getD (imageOf n p) 4 0 ≡ excNumber (p .«exc_state»)
+unfolding imageOf kindBytes
+byte-4 n p = refl
+
+pub four-refused : (l : List ℕ) → length l ≡ wholeSize → getD l 4 0 ≡ 4 → restoredFrom l .answer ≡ Answer.Refused Refusal.NotAnImage
+unfolding restoredFrom readVerdict isImage
+four-refused l long four = go (soundOf (pageFrom l) && isImage (pageFrom l) l) refl
+  where
+    go : (t : Bool) → (soundOf (pageFrom l) && isImage (pageFrom l) l) ≡ t
+        → restoredAs (pageFrom l) (readVerdict (pageFrom l) l) .answer ≡ Answer.Refused Refusal.NotAnImage
+    go true e =
+        let said = pageFrom l in
+        let image = same-equal l (imageOf capacity said) (halves (soundOf said) (isImage said l) (is-true e) .1) in
+        let there : excNumber (said .«exc_state») ≡ 4 = sym (byte-4 capacity said) ∙ ap (λ (z : List ℕ). getD z 4 0) (sym image) ∙ four in
+        absurd (no-number-4 (said .«exc_state») there)
+    go false e = rw (eq-eqb (length l) wholeSize long, e)
 
 -- ---- there and back
 pub write-read : (p : Page) → T (soundOf p) → InRange p

@@ -15,7 +15,7 @@ excBucketNumber ExcState.None = 0
 excBucketNumber (ExcState.Claim bucket value) = bucketNumber bucket
 excBucketNumber (ExcState.PendingAwaitWriteback bucket value) = bucketNumber bucket
 excBucketNumber (ExcState.Pending bucket visited clean value) = bucketNumber bucket
-excBucketNumber (ExcState.Obtained bucket clean) = bucketNumber bucket
+excBucketNumber (ExcState.Obtained bucket clean value) = bucketNumber bucket
 
 -- the loader's bucket: one that is Pending can't have one
 abbrev pub loadingBucketNumber : LoadingState → ℕ

@@ -84,6 +84,7 @@ imageOf n p =
 -- the values of a page are as wide as the code holds them
 pub record InRange (p : Page) : Type 0 where
   pub stored : valueOf (p .storage) < valueLimit
-  pub claimed : excValue (p .«exc_state») < valueLimit
+  -- storage's, or the one that is kept while storage is out: no rule ties that one to anything
+  pub held : excValue (p .«exc_state») < valueLimit
   pub written : writebackValue (p .«writeback_state») < valueLimit
   pub read : (i : ℕ) → phaseValue ((getD (live (p .readers)) i blankReader) .phase) < valueLimit

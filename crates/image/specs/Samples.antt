@@ -92,11 +92,21 @@ pending = record {
       );
 }
 
--- exclusive Obtained without a bucket, not clean: the page is out
+-- exclusive Obtained without a bucket, not clean: the page is out, and the value that was taken is kept
 abbrev pub editing : Sample
 editing = record {
-  page = page Storage.Out Flag.ExcLockDirty (counts 0 0 0 0) (ExcState.Obtained none false) LoadingState.None WritebackState.None;
-  bytes = padded (10 ∷ 0 ∷ 0 ∷ 0 ∷ 4 ∷ 255 ∷ []);
+  page = page Storage.Out Flag.ExcLockDirty (counts 0 0 0 0) (ExcState.Obtained none false value) LoadingState.None WritebackState.None;
+  bytes = padded ((10 ∷ 0 ∷ 0 ∷ 0 ∷ 5 ∷ 255 ∷ []) ++ replicate 34 0 ++ v8);
+}
+
+-- .. at 1, clean
+abbrev pub editingClean : Sample
+editingClean = record {
+  page =
+      page Storage.Out Flag.ExcLockClean (counts 0 1 0 0) (ExcState.Obtained (at 1) true value) LoadingState.None WritebackState.None;
+  bytes = padded (
+      (9 ∷ 0 ∷ 0 ∷ 0 ∷ 5 ∷ 1 ∷ 0 ∷ 1 ∷ 0 ∷ 0 ∷ 0 ∷ 0 ∷ 0 ∷ 0 ∷ 0 ∷ 0 ∷ 0 ∷ 1 ∷ []) ++ replicate 22 0 ++ v8
+      );
 }
 
 -- a loader that is Pending, PendingCounted at 3, Obtained at 0, and Obtained without a bucket
@@ -125,7 +135,7 @@ prefetch = record {
 }
 
 abbrev pub samples : List Sample
-samples = fresh ∷ claim ∷ await ∷ pending ∷ editing ∷ waiting ∷ counted ∷ loading ∷ prefetch ∷ []
+samples = fresh ∷ claim ∷ await ∷ pending ∷ editing ∷ editingClean ∷ waiting ∷ counted ∷ loading ∷ prefetch ∷ []
 
 -- each page is sound, and its image has just these bytes
 abbrev pub written : Sample → Bool
@@ -150,6 +160,10 @@ refusals =
     ∷ record { bytes = padded (2 ∷ 0 ∷ 0 ∷ 0 ∷ 0 ∷ 0 ∷ 0 ∷ 0 ∷ 1 ∷ 255 ∷ []); number = 16 }
     -- a loader that is PendingCounted without a bucket: rule 4
     ∷ record { bytes = padded (2 ∷ 0 ∷ 0 ∷ 0 ∷ 0 ∷ 0 ∷ 0 ∷ 0 ∷ 2 ∷ 255 ∷ []); number = 16 }
+    -- exclusive kind 4, which doesn't say what was taken, without a value and with one; and 6, which there isn't
+    ∷ record { bytes = padded (10 ∷ 0 ∷ 0 ∷ 0 ∷ 4 ∷ 255 ∷ []); number = 16 }
+    ∷ record { bytes = padded ((10 ∷ 0 ∷ 0 ∷ 0 ∷ 4 ∷ 255 ∷ []) ++ replicate 34 0 ++ v8); number = 16 }
+    ∷ record { bytes = padded ((10 ∷ 0 ∷ 0 ∷ 0 ∷ 6 ∷ 255 ∷ []) ++ replicate 34 0 ++ v8); number = 16 }
     -- a value of storage that is out
     ∷ record { bytes = padded ((1 ∷ 0 ∷ 0 ∷ 0 ∷ 0 ∷ 0 ∷ 0 ∷ 0 ∷ 3 ∷ 255 ∷ []) ++ replicate 22 0 ++ v8); number = 16 }
     -- the array's filling past the list's end

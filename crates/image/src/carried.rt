@@ -45,7 +45,7 @@ pub fn exc_clean(e: ExcState) -> bool
     }
 }
 
-// A claimant's value.
+// The exclusive holder's value: storage's, or the one that it keeps.
 pub fn exc_value(e: ExcState) -> u64
     ensures { λ r. ⌜ r ≡ excValue e ⌝ }
 {
@@ -54,7 +54,7 @@ pub fn exc_value(e: ExcState) -> u64
         ExcState::Claim { value, .. } => value,
         ExcState::PendingAwaitWriteback { value, .. } => value,
         ExcState::Pending { value, .. } => value,
-        ExcState::Obtained { .. } => 0,
+        ExcState::Obtained { value, .. } => value,
     }
 }
 

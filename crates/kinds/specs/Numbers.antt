@@ -1,5 +1,6 @@
 -- The number of each flag and of each kind of holder, in the source's order, and back: the bytes of a stored record (RULES 5.5).
--- Back, any number is taken: one that stands for no kind counts as 0.
+-- Back, any number is taken: one that stands for no kind counts as 0. Of the exclusive kinds 4 is such a number: it was Obtained,
+-- without the value that was taken.
 use Prim.Native.Nat.{ℕ}
 use mathlib.Core.Bool.{Bool, cond}
 use mathlib.Core.List.{List, [], _∷_}
@@ -36,7 +37,7 @@ excNumber ExcState.None = 0
 excNumber (ExcState.Claim bucket value) = 1
 excNumber (ExcState.PendingAwaitWriteback bucket value) = 2
 excNumber (ExcState.Pending bucket visited clean value) = 3
-excNumber (ExcState.Obtained bucket clean) = 4
+excNumber (ExcState.Obtained bucket clean value) = 5
 
 -- the loader, 0 where there is none
 abbrev pub loadingNumber : LoadingState → ℕ
@@ -96,14 +97,15 @@ bucketFrom n = cond (eqb n noBucket) MaybeBucket.None (MaybeBucket.At (record { 
 unfoldable pub phaseFrom : ℕ → ℕ → Phase
 phaseFrom n value = cond (eqb n 2) Phase.Pending2 (cond (eqb n 3) (Phase.Obtained value) Phase.Pending)
 
--- the exclusive holders by their numbers, each with what its kind has of these
+-- the exclusive holders by their numbers, each with what its kind has of these; 4 is nobody's
 abbrev pub excs : MaybeBucket → Visited → Bool → ℕ → List ExcState
 excs bucket visited clean value =
     ExcState.None
     ∷ ExcState.Claim bucket value
     ∷ ExcState.PendingAwaitWriteback bucket value
     ∷ ExcState.Pending bucket visited clean value
-    ∷ ExcState.Obtained bucket clean
+    ∷ ExcState.None
+    ∷ ExcState.Obtained bucket clean value
     ∷ []
 
 unfoldable pub excFrom : ℕ → MaybeBucket → Visited → Bool → ℕ → ExcState

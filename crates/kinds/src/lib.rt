@@ -92,7 +92,7 @@ pub struct Reader {
     pub bucket: Bucket,
 }
 
-// The editor.
+// The editor. One that has the page out keeps the version that it took.
 pub enum ExcState {
     None,
     Claim {
@@ -112,6 +112,7 @@ pub enum ExcState {
     Obtained {
         bucket: MaybeBucket,
         clean: bool,
+        value: u64,
     },
 }
 

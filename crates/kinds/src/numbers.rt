@@ -1,5 +1,5 @@
 // The kinds of holders as numbers, in the source's order, and back: the bytes of a stored record. Back, any number is taken: one
-// that stands for no kind counts as 0.
+// that stands for no kind counts as 0. Of the exclusive kinds 4 is such a number: it was Obtained, without the value that was taken.
 ghost use mathlib.Core.Path.{_≡_};
 ghost use Rattle.kinds.specs.Numbers.{storageNumber, bucketNumber, excNumber, loadingNumber, writebackNumber};
 ghost use Rattle.kinds.specs.Numbers.{flagFrom, storageFrom, bucketFrom, phaseFrom, excFrom, loadingFrom, writebackFrom};
@@ -36,7 +36,7 @@ pub fn bucket_number(b: MaybeBucket) -> u8
     }
 }
 
-// The exclusive holder's number, 1 to 4, or 0 where there is none.
+// The exclusive holder's number, 1 to 3 and 5, or 0 where there is none.
 pub fn exc_number(e: ExcState) -> u8
     ensures { λ r. ⌜ r ≡ excNumber e ⌝ }
 {
@@ -45,7 +45,7 @@ pub fn exc_number(e: ExcState) -> u8
         ExcState::Claim { .. } => 1,
         ExcState::PendingAwaitWriteback { .. } => 2,
         ExcState::Pending { .. } => 3,
-        ExcState::Obtained { .. } => 4,
+        ExcState::Obtained { .. } => 5,
     }
 }
 
@@ -144,7 +144,12 @@ pub fn exc_from(
             clean,
             value,
         },
-        4 => ExcState::Obtained { bucket, clean },
+        4 => ExcState::None,
+        5 => ExcState::Obtained {
+            bucket,
+            clean,
+            value,
+        },
         _ => ExcState::None,
     }
 }

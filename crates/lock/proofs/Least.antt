@@ -1,6 +1,6 @@
 -- The answer's number is the lowest of the numbers that apply (`least-number`), for every page and request, sound and well formed
 -- or not. So a number is given just if it applies and no lower one does (`number-first`), and 0 just if none does
--- (`number-none`). 1 is the page's, 2 to 4 are the request's, 5 to 11 the step's own (Least/Tables.antt). Assumes nothing.
+-- (`number-none`). 1 is the page's, 2 to 4 are the request's, 5 to 11 and 17 the step's own (Least/Tables.antt). Assumes nothing.
 pub mod Numbered
 pub mod Tables
 use Prim.Native.Nat.{ℕ, _≤_}
@@ -50,7 +50,7 @@ module _ (p : Page) (q : Request) where
       sym (first-before (applyingFields q) (applyingStep p q) (omega (arith, here, refusal-above why)) ∙ here)
 
   -- ---- the theorem
-  -- the answer's number is the first of the eleven that applies, 0 where none does
+  -- the answer's number is the first of the table that applies, 0 where none does
   pub least-number : answerNumber (stepOf p q .answer) ≡ firstApplying (applying p q)
   unfolding stepOf
   least-number = go (soundOf p) refl

@@ -19,7 +19,7 @@ pub record Allowed (p : Page) (q : Request) (p′ : Page) (out : Storage) : Type
   pub sound : T (soundOf p)
   -- 2 to 4
   pub well-formed : judged q ≡ Verdict.Passed
-  -- 5 to 9: the source's transition, or one of ours
+  -- 5 to 9 and 17: the source's transition, or one of ours
   pub moves : Moves (stateOf p) q (stateOf p′) out
   -- 10 and 11
   pub room : Room (stateOf p) q

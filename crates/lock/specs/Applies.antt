@@ -1,4 +1,4 @@
--- When each of the numbers 1 to 11 applies to a request on a page, by the replies of RULES 4.1 and the steps of RULES 3.2, in
+-- When each of the numbers 1 to 11 and 17 applies to a request on a page, by the replies of RULES 4.1 and the steps of RULES 3.2, in
 -- words of their own: no premise list stands here, and the table's order is that of the numbers alone. 2 to 4, which speak of the
 -- request, stand in `requests`. The answer is the lowest number that applies, and none is given otherwise (`least-number`,
 -- `number-first` and `number-none` in proofs/Least.antt).
@@ -13,14 +13,14 @@ use Rattle.kinds.specs.Numbers.{flagNumber}
 use Rattle.readers.specs.Same.{sameReader}
 use Rattle.readers.specs.Listed.{live}
 use Rattle.page_record.specs.declared.Page.{Page}
-use Rattle.page_record.specs.Holders.{hasBucket, isClaim, isAwait, isPending, isEditing, excBucket, excVisited}
-use Rattle.page_record.specs.Holders.{isWaiting, isCounted, isLoading, loadingBucket, noWriteback}
+use Rattle.page_record.specs.Holders.{hasBucket, isClaim, isAwait, isPending, isEditing, excBucket, excVisited, excClean}
+use Rattle.page_record.specs.Holders.{excValue, isWaiting, isCounted, isLoading, loadingBucket, noWriteback}
 use Rattle.page_record.specs.Pages.{numberAt}
 use Rattle.page_record.specs.References.{refAt}
 use Rattle.soundness.specs.Soundness.{soundOf}
 use Rattle.requests.specs.declared.Request.{Request}
 use Rattle.requests.specs.Applies.{applies2, applies3, applies4}
-use Rattle.lock.specs.Words.{raising, listing}
+use Rattle.lock.specs.Words.{raising, listing, puttingBack}
 
 -- ---- words
 -- the flag is one of these
@@ -111,8 +111,16 @@ applies10 p q = among raising (q .step) && eqb (numberAt (p .«ref_counts») (q 
 abbrev pub applies11 : Page → Request → Bool
 applies11 p q = among listing (q .step) && eqb (p .readers .len) capacity
 
+-- 17: the holder is clean, and the value is another than it keeps (9, 10, 29, 30)
+abbrev pub valueOther : Page → ℕ → ℕ → Bool
+valueOther p n value =
+    among puttingBack n && excClean (p .«exc_state») && not (eqb value (excValue (p .«exc_state»)))
+
+abbrev pub applies17 : Page → Request → Bool
+applies17 p q = holderThere p q && valueOther p (q .step) (q .value)
+
 -- ---- the table
--- 5 to 11, which are the step's own
+-- 5 to 11 and 17, which are the step's own; 12 to 16 are never given to a step
 abbrev pub applyingStep : Page → Request → List (ℕ × Bool)
 applyingStep p q =
     (5, applies5 p q)
@@ -122,6 +130,7 @@ applyingStep p q =
     ∷ (9, applies9 p q)
     ∷ (10, applies10 p q)
     ∷ (11, applies11 p q)
+    ∷ (17, applies17 p q)
     ∷ []
 
 -- all of them

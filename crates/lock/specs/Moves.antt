@@ -5,7 +5,8 @@
 --
 -- A transition is taken just if every line (name : fact) of its constructor holds. The lines stand in the order of the
 -- source's clauses and have their names, with the field's name where one alone would not tell them apart. What stands before
--- the line `step` is what the source binds (`any` for its `let _`), and `before` and `after`, the list around a reader. A
+-- the line `step` is what the source binds (`any` for its `let _`), `before` and `after`, the list around a reader, and `taken`, the
+-- value that an Obtained exclusive holder keeps here. A
 -- transition's own bucket and value are the request's. A × B: both; A ⊎ B: one of them; x ≢ y: they differ.
 --
 --   the source                                       a line of the constructor
@@ -29,6 +30,8 @@
 --                                                    (elsewhere : Elsewhere pre post b), the other counts stay
 --   (n - 1) as nat                                   (as-nat : 1 ≤ n)
 --   (no such line)                                   (one-less : OneLess pre post bucket), at a holder's bucket, if it has one
+--   (no such line)                                   (unchanged-if-clean : Unchanged clean taken (q .value)), what a clean holder
+--                                                    puts in is what it took
 --   have ref_counts >= [b => n];                     (have : countOf pre b ≡ n)
 --   let expected_rc = if P { 1 } else { 0 };         (let-expected-rc : (P × (expected-rc ≡ 1)) ⊎ ..)
 --   birds_eye let v = pre.storage.get_Some_0();      (birds-eye-let : pre .storage ≡ Storage.In v)
@@ -119,6 +122,10 @@ pub record Fewer (pre post : RwLock) (bucket : Bucket) : Type 0 where
 abbrev pub OneLess : RwLock → RwLock → MaybeBucket → Type 0
 OneLess pre post MaybeBucket.None = post .ref-counts ≡ pre .ref-counts
 OneLess pre post (MaybeBucket.At bucket) = Fewer pre post bucket
+
+-- what a clean holder puts in is what it took; one that is not clean puts in any value
+abbrev pub Unchanged : Bool → ℕ → ℕ → Type 0
+Unchanged clean taken value = clean ≡ true → value ≡ taken
 
 -- x is not in the list: what stands after the list is the first equal entry
 abbrev pub Absent : Reader → List Reader → Type 0
@@ -234,30 +241,32 @@ pub data Moves (pre : RwLock) (q : Request) (post : RwLock) (out : Storage) : Ty
       (have : countOf pre (asBucket visited-count) ≡ expected-rc)
       (only : Only (exc-state ∷ []) pre post out)
       → Moves pre q post out
-  -- 8 withdraw_take_exc_lock_finish, line 237
+  -- 8 withdraw_take_exc_lock_finish, line 237; changed: the holder keeps the value that it takes
   withdraw-take-exc-lock-finish : (bucket : MaybeBucket) (visited-count : Visited) (clean : Bool) (value : ℕ)
       (step : q .step ≡ 8)
       (remove : pre .exc-state ≡ ExcState.Pending bucket visited-count clean value)
       (require : visited-count .0 ≡ buckets)
-      (add : post .exc-state ≡ ExcState.Obtained bucket clean)
+      (add : post .exc-state ≡ ExcState.Obtained bucket clean value)
       (withdraw : (pre .storage ≡ Storage.In value) × (post .storage ≡ Storage.Out) × (out ≡ Storage.In value))
       (only : Only (exc-state ∷ storage ∷ withdrawn ∷ []) pre post out)
       → Moves pre q post out
-  -- 9 deposit_downgrade_exc_lock, line 247
-  deposit-downgrade-exc-lock : (bucket : MaybeBucket) (clean : Bool) (get-some : Bucket)
+  -- 9 deposit_downgrade_exc_lock, line 247; changed: a clean holder puts in what it took
+  deposit-downgrade-exc-lock : (bucket : MaybeBucket) (clean : Bool) (taken : ℕ) (get-some : Bucket)
       (step : q .step ≡ 9)
-      (remove : (pre .exc-state ≡ ExcState.Obtained bucket clean) × (post .exc-state ≡ ExcState.None))
+      (remove : (pre .exc-state ≡ ExcState.Obtained bucket clean taken) × (post .exc-state ≡ ExcState.None))
       (require : bucket ≡ some get-some)
+      (unchanged-if-clean : Unchanged clean taken (q .value))
       (update : post .flag ≡ Flag.Available)
       (deposit : (pre .storage ≡ Storage.Out) × (post .storage ≡ Storage.In (q .value)))
       (add : post .shared-state ≡ pre .shared-state ++ obtained get-some (q .value) ∷ [])
       (only : Only (exc-state ∷ flag ∷ storage ∷ shared-state ∷ []) pre post out)
       → Moves pre q post out
-  -- 10 deposit_downgrade_exc_lock_to_claim, line 257
-  deposit-downgrade-exc-lock-to-claim : (bucket : MaybeBucket) (clean : Bool) (get-some : Bucket)
+  -- 10 deposit_downgrade_exc_lock_to_claim, line 257; changed: likewise
+  deposit-downgrade-exc-lock-to-claim : (bucket : MaybeBucket) (clean : Bool) (taken : ℕ) (get-some : Bucket)
       (step : q .step ≡ 10)
-      (remove : pre .exc-state ≡ ExcState.Obtained bucket clean)
+      (remove : pre .exc-state ≡ ExcState.Obtained bucket clean taken)
       (require : bucket ≡ some get-some)
+      (unchanged-if-clean : Unchanged clean taken (q .value))
       (update : post .flag ≡ Flag.Claimed)
       (deposit : (pre .storage ≡ Storage.Out) × (post .storage ≡ Storage.In (q .value)))
       (add : post .exc-state ≡ ExcState.Claim bucket (q .value))
@@ -327,14 +336,14 @@ pub data Moves (pre : RwLock) (q : Request) (post : RwLock) (out : Storage) : Ty
       (one-less : OneLess pre post bucket)
       (only : Only (loading-state ∷ flag ∷ storage ∷ ref-counts ∷ []) pre post out)
       → Moves pre q post out
-  -- 18 exc_inc_count, line 356
-  exc-inc-count : (none-bucket : MaybeBucket) (clean : Bool) (pre-count : ℕ)
+  -- 18 exc_inc_count, line 356; changed: the holder keeps what it took
+  exc-inc-count : (none-bucket : MaybeBucket) (clean : Bool) (taken pre-count : ℕ)
       (step : q .step ≡ 18)
       (require : q .bucket .0 < buckets)
-      (remove-exc-state : pre .exc-state ≡ ExcState.Obtained none-bucket clean)
+      (remove-exc-state : pre .exc-state ≡ ExcState.Obtained none-bucket clean taken)
       (require-none : none-bucket ≡ MaybeBucket.None)
       (remove-ref-counts : countOf pre (q .bucket) ≡ pre-count)
-      (add-exc-state : post .exc-state ≡ ExcState.Obtained (some (q .bucket)) clean)
+      (add-exc-state : post .exc-state ≡ ExcState.Obtained (some (q .bucket)) clean taken)
       (add-ref-counts : countOf post (q .bucket) ≡ pre-count + 1)
       (elsewhere : Elsewhere pre post (q .bucket))
       (only : Only (exc-state ∷ ref-counts ∷ []) pre post out)
@@ -452,18 +461,20 @@ pub data Moves (pre : RwLock) (q : Request) (post : RwLock) (out : Storage) : Ty
       (only : Only (exc-state ∷ flag ∷ []) pre post out)
       → Moves pre q post out
   -- 29 deposit_exc_lock_to_done
-  deposit-exc-lock-to-done : (bucket : MaybeBucket) (clean : Bool)
+  deposit-exc-lock-to-done : (bucket : MaybeBucket) (clean : Bool) (taken : ℕ)
       (step : q .step ≡ 29)
-      (remove : (pre .exc-state ≡ ExcState.Obtained bucket clean) × (post .exc-state ≡ ExcState.None))
+      (remove : (pre .exc-state ≡ ExcState.Obtained bucket clean taken) × (post .exc-state ≡ ExcState.None))
+      (unchanged-if-clean : Unchanged clean taken (q .value))
       (update : post .flag ≡ Flag.Available)
       (deposit : (pre .storage ≡ Storage.Out) × (post .storage ≡ Storage.In (q .value)))
       (one-less : OneLess pre post bucket)
       (only : Only (exc-state ∷ flag ∷ storage ∷ ref-counts ∷ []) pre post out)
       → Moves pre q post out
   -- 30 deposit_exc_lock_to_unmapped
-  deposit-exc-lock-to-unmapped : (bucket : MaybeBucket) (clean : Bool)
+  deposit-exc-lock-to-unmapped : (bucket : MaybeBucket) (clean : Bool) (taken : ℕ)
       (step : q .step ≡ 30)
-      (remove : (pre .exc-state ≡ ExcState.Obtained bucket clean) × (post .exc-state ≡ ExcState.None))
+      (remove : (pre .exc-state ≡ ExcState.Obtained bucket clean taken) × (post .exc-state ≡ ExcState.None))
+      (unchanged-if-clean : Unchanged clean taken (q .value))
       (update : post .flag ≡ Flag.Unmapped)
       (deposit : (pre .storage ≡ Storage.Out) × (post .storage ≡ Storage.In (q .value)))
       (one-less : OneLess pre post bucket)

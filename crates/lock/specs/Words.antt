@@ -26,6 +26,10 @@ listing = 9 ∷ 16 ∷ 19 ∷ 26 ∷ []
 abbrev pub puttingIn : List ℕ
 puttingIn = 9 ∷ 10 ∷ 16 ∷ 17 ∷ 29 ∷ 30 ∷ []
 
+-- .. by an exclusive holder
+abbrev pub puttingBack : List ℕ
+puttingBack = 9 ∷ 10 ∷ 29 ∷ 30 ∷ []
+
 -- the page is handed out
 abbrev pub handingOut : List ℕ
 handingOut = 8 ∷ 11 ∷ 12 ∷ []

@@ -17,43 +17,43 @@ no-exc ExcState.None t = refl
 no-exc (ExcState.Claim m v) t = absurd t
 no-exc (ExcState.PendingAwaitWriteback m v) t = absurd t
 no-exc (ExcState.Pending m n c v) t = absurd t
-no-exc (ExcState.Obtained m c) t = absurd t
+no-exc (ExcState.Obtained m c v) t = absurd t
 
 pub is-claim : (e : ExcState) → T (isClaim e) → e ≡ ExcState.Claim (excBucket e) (excValue e)
 is-claim ExcState.None t = absurd t
 is-claim (ExcState.Claim m v) t = refl
 is-claim (ExcState.PendingAwaitWriteback m v) t = absurd t
 is-claim (ExcState.Pending m n c v) t = absurd t
-is-claim (ExcState.Obtained m c) t = absurd t
+is-claim (ExcState.Obtained m c v) t = absurd t
 
 pub is-await : (e : ExcState) → T (isAwait e) → e ≡ ExcState.PendingAwaitWriteback (excBucket e) (excValue e)
 is-await ExcState.None t = absurd t
 is-await (ExcState.Claim m v) t = absurd t
 is-await (ExcState.PendingAwaitWriteback m v) t = refl
 is-await (ExcState.Pending m n c v) t = absurd t
-is-await (ExcState.Obtained m c) t = absurd t
+is-await (ExcState.Obtained m c v) t = absurd t
 
 pub is-pending : (e : ExcState) → T (isPending e) → e ≡ ExcState.Pending (excBucket e) (excVisited e) (excClean e) (excValue e)
 is-pending ExcState.None t = absurd t
 is-pending (ExcState.Claim m v) t = absurd t
 is-pending (ExcState.PendingAwaitWriteback m v) t = absurd t
 is-pending (ExcState.Pending m n c v) t = refl
-is-pending (ExcState.Obtained m c) t = absurd t
+is-pending (ExcState.Obtained m c v) t = absurd t
 
-pub is-editing : (e : ExcState) → T (isEditing e) → e ≡ ExcState.Obtained (excBucket e) (excClean e)
+pub is-editing : (e : ExcState) → T (isEditing e) → e ≡ ExcState.Obtained (excBucket e) (excClean e) (excValue e)
 is-editing ExcState.None t = absurd t
 is-editing (ExcState.Claim m v) t = absurd t
 is-editing (ExcState.PendingAwaitWriteback m v) t = absurd t
 is-editing (ExcState.Pending m n c v) t = absurd t
-is-editing (ExcState.Obtained m c) t = refl
+is-editing (ExcState.Obtained m c v) t = refl
 
 pub is-locked : (c : Bool) (e : ExcState) → T (isLocked c e)
-    → (e ≡ ExcState.Pending (excBucket e) (excVisited e) c (excValue e)) ⊎ (e ≡ ExcState.Obtained (excBucket e) c)
+    → (e ≡ ExcState.Pending (excBucket e) (excVisited e) c (excValue e)) ⊎ (e ≡ ExcState.Obtained (excBucket e) c (excValue e))
 is-locked c ExcState.None t = absurd t
 is-locked c (ExcState.Claim m v) t = absurd t
 is-locked c (ExcState.PendingAwaitWriteback m v) t = absurd t
 is-locked c (ExcState.Pending m n d v) t = inl (rw (alike c d t))
-is-locked c (ExcState.Obtained m d) t = inr (rw (alike c d t))
+is-locked c (ExcState.Obtained m d v) t = inr (rw (alike c d t))
 
 pub no-load : (l : LoadingState) → T (noLoad l) → l ≡ LoadingState.None
 no-load LoadingState.None t = refl

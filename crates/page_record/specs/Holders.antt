@@ -43,28 +43,28 @@ noExc ExcState.None = true
 noExc (ExcState.Claim bucket value) = false
 noExc (ExcState.PendingAwaitWriteback bucket value) = false
 noExc (ExcState.Pending bucket visited clean value) = false
-noExc (ExcState.Obtained bucket clean) = false
+noExc (ExcState.Obtained bucket clean value) = false
 
 abbrev pub isClaim : ExcState → Bool
 isClaim ExcState.None = false
 isClaim (ExcState.Claim bucket value) = true
 isClaim (ExcState.PendingAwaitWriteback bucket value) = false
 isClaim (ExcState.Pending bucket visited clean value) = false
-isClaim (ExcState.Obtained bucket clean) = false
+isClaim (ExcState.Obtained bucket clean value) = false
 
 abbrev pub isAwait : ExcState → Bool
 isAwait ExcState.None = false
 isAwait (ExcState.Claim bucket value) = false
 isAwait (ExcState.PendingAwaitWriteback bucket value) = true
 isAwait (ExcState.Pending bucket visited clean value) = false
-isAwait (ExcState.Obtained bucket clean) = false
+isAwait (ExcState.Obtained bucket clean value) = false
 
 abbrev pub isPending : ExcState → Bool
 isPending ExcState.None = false
 isPending (ExcState.Claim bucket value) = false
 isPending (ExcState.PendingAwaitWriteback bucket value) = false
 isPending (ExcState.Pending bucket visited clean value) = true
-isPending (ExcState.Obtained bucket clean) = false
+isPending (ExcState.Obtained bucket clean value) = false
 
 -- an editor that has the page out
 abbrev pub isEditing : ExcState → Bool
@@ -72,7 +72,7 @@ isEditing ExcState.None = false
 isEditing (ExcState.Claim bucket value) = false
 isEditing (ExcState.PendingAwaitWriteback bucket value) = false
 isEditing (ExcState.Pending bucket visited clean value) = false
-isEditing (ExcState.Obtained bucket clean) = true
+isEditing (ExcState.Obtained bucket clean value) = true
 
 -- Pending or Obtained, and clean as said
 abbrev pub isLocked : Bool → ExcState → Bool
@@ -80,7 +80,7 @@ isLocked said ExcState.None = false
 isLocked said (ExcState.Claim bucket value) = false
 isLocked said (ExcState.PendingAwaitWriteback bucket value) = false
 isLocked said (ExcState.Pending bucket visited clean value) = Bool·beq said clean
-isLocked said (ExcState.Obtained bucket clean) = Bool·beq said clean
+isLocked said (ExcState.Obtained bucket clean value) = Bool·beq said clean
 
 -- the source's get_bucket, line 72
 abbrev pub excBucket : ExcState → MaybeBucket
@@ -88,28 +88,29 @@ excBucket ExcState.None = MaybeBucket.None
 excBucket (ExcState.Claim bucket value) = bucket
 excBucket (ExcState.PendingAwaitWriteback bucket value) = bucket
 excBucket (ExcState.Pending bucket visited clean value) = bucket
-excBucket (ExcState.Obtained bucket clean) = bucket
+excBucket (ExcState.Obtained bucket clean value) = bucket
 
 abbrev pub excVisited : ExcState → Visited
 excVisited ExcState.None = record { 0 = 0 }
 excVisited (ExcState.Claim bucket value) = record { 0 = 0 }
 excVisited (ExcState.PendingAwaitWriteback bucket value) = record { 0 = 0 }
 excVisited (ExcState.Pending bucket visited clean value) = visited
-excVisited (ExcState.Obtained bucket clean) = record { 0 = 0 }
+excVisited (ExcState.Obtained bucket clean value) = record { 0 = 0 }
 
 abbrev pub excClean : ExcState → Bool
 excClean ExcState.None = false
 excClean (ExcState.Claim bucket value) = false
 excClean (ExcState.PendingAwaitWriteback bucket value) = false
 excClean (ExcState.Pending bucket visited clean value) = clean
-excClean (ExcState.Obtained bucket clean) = clean
+excClean (ExcState.Obtained bucket clean value) = clean
 
+-- storage's, until it is taken out; then the one that was taken
 abbrev pub excValue : ExcState → ℕ
 excValue ExcState.None = 0
 excValue (ExcState.Claim bucket value) = value
 excValue (ExcState.PendingAwaitWriteback bucket value) = value
 excValue (ExcState.Pending bucket visited clean value) = value
-excValue (ExcState.Obtained bucket clean) = 0
+excValue (ExcState.Obtained bucket clean value) = value
 
 -- ---- the loader
 abbrev pub noLoad : LoadingState → Bool

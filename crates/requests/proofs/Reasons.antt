@@ -31,6 +31,7 @@ reasons =
     ∷ Refusal.NoRoom
     ∷ Refusal.WrongSize
     ∷ Refusal.NotAnImage
+    ∷ Refusal.OtherValue
     ∷ []
 
 abbrev pub reasonAt : ℕ → Refusal
@@ -53,6 +54,7 @@ reason-told Refusal.TooMany = refl
 reason-told Refusal.NoRoom = refl
 reason-told Refusal.WrongSize = refl
 reason-told Refusal.NotAnImage = refl
+reason-told Refusal.OtherValue = refl
 
 -- a reason with number 0 would be the first, whose number is 1
 pub refusal-positive : (why : Refusal) → eqb (refusalNumber why) 0 ≡ false

@@ -20,6 +20,7 @@ refusalNumber Refusal.TooMany = 13
 refusalNumber Refusal.NoRoom = 14
 refusalNumber Refusal.WrongSize = 15
 refusalNumber Refusal.NotAnImage = 16
+refusalNumber Refusal.OtherValue = 17
 
 -- 0 where all that is asked holds
 abbrev pub verdictNumber : Verdict → ℕ

@@ -24,6 +24,7 @@ pub fn refusal_number(why: Refusal) -> u8
         Refusal::NoRoom => 14,
         Refusal::WrongSize => 15,
         Refusal::NotAnImage => 16,
+        Refusal::OtherValue => 17,
     }
 }
 

@@ -24,7 +24,7 @@ pub struct Request {
     pub value: u64,
 }
 
-// Why something is refused: the numbers 1 to 16 of RULES 4.1, in their order. 15 and 16 are of an image.
+// Why something is refused: the numbers 1 to 17 of RULES 4.1, in their order. 12 to 14 are of bytes and runs, 15 and 16 of an image.
 pub enum Refusal {
     Unsound,
     UnknownStep,
@@ -42,6 +42,7 @@ pub enum Refusal {
     NoRoom,
     WrongSize,
     NotAnImage,
+    OtherValue,
 }
 
 // What a request is answered: that it is accepted, and which value is handed out for it if one is, or why it is refused.

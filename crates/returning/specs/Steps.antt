@@ -6,10 +6,11 @@ use mathlib.Core.List.{[], _∷_}
 use Rattle.kinds.specs.declared.{Flag.Flag, Storage.Storage, Phase.Phase, ExcState.ExcState}
 use Rattle.kinds.specs.Flags.{unclaimed, unawaited}
 use Rattle.page_record.specs.declared.Head.{Head}
-use Rattle.page_record.specs.Holders.{hasBucket, bucketOf, isClaim, isAwait, isPending, isEditing, excBucket, excValue}
+use Rattle.page_record.specs.Holders.{hasBucket, bucketOf, isClaim, isAwait, isPending, isEditing, excBucket, excClean}
+use Rattle.page_record.specs.Holders.{excValue}
 use Rattle.requests.specs.declared.{Refusal.Refusal, Request.Request}
 use Rattle.heads.specs.declared.Edit.{Edit}
-use Rattle.heads.specs.Decisions.{Step, accepts, reader}
+use Rattle.heads.specs.Decisions.{Step, accepts, reader, mayPutIn}
 use Rattle.heads.specs.Setters.{withStorage, withFlag, withExc, loweredIf}
 
 -- ---- claims
@@ -51,7 +52,7 @@ cancelExcLockToClaim h =
 abbrev pub depositTo : Head → Request → Flag → Step
 depositTo h q flag =
     let e = h .«exc_state» in
-    accepts ((Refusal.NoHolder, isEditing e) ∷ [])
+    accepts ((Refusal.NoHolder, isEditing e) ∷ (Refusal.OtherValue, mayPutIn (excClean e) (excValue e) (q .value)) ∷ [])
     (loweredIf (excBucket e) (withFlag flag (withStorage (Storage.In (q .value)) (withExc ExcState.None h))))
     Edit.Keep
 

@@ -1,5 +1,6 @@
 // The editor gives up: steps 28 to 30. One that looks at the buckets opens the page again and keeps its claim (28). One that has
-// the page out puts it in and leaves, which needs no bucket: the page is available (29), or unmapped, to be loaded anew (30).
+// the page out puts it in and leaves, which needs no bucket: the page is available (29), or unmapped, to be loaded anew (30). One
+// that closed the page as clean puts in what it got.
 ghost use mathlib.Core.Path.{_≡_};
 ghost use Rattle.heads.specs.Decisions.{decided};
 ghost use Rattle.returning.specs.Steps.{cancelExcLockToClaim, depositTo};
@@ -9,6 +10,7 @@ use heads::Edit;
 use heads::deposit_exc;
 use heads::leave_exc;
 use heads::lower_if;
+use heads::may_put_in;
 use heads::refuse;
 use kinds::ExcState;
 use kinds::Flag;
@@ -16,7 +18,7 @@ use page_record::Head;
 use requests::Refusal;
 use requests::Request;
 
-// 28: the editor keeps its claim alone, however many buckets it has visited, and forgets whether it took the page as clean.
+// 28: the editor keeps its claim alone, however many buckets it has visited, and forgets whether it was to take the page as clean.
 pub fn cancel_exc_lock_to_claim(h: Head) -> Decision
     ensures { λ r. ⌜ r ≡ decided h (cancelExcLockToClaim h) ⌝ }
 {
@@ -40,9 +42,17 @@ fn deposit_to(h: Head, q: Request, flag: Flag) -> Decision
 {
     let exc = h.exc_state;
     let value = q.value;
-    let ExcState::Obtained { bucket, clean: _ } = exc else {
+    let ExcState::Obtained {
+        bucket,
+        clean,
+        value: kept,
+    } = exc
+    else {
         return refuse(h, Refusal::NoHolder);
     };
+    if !may_put_in(clean, kept, value) {
+        return refuse(h, Refusal::OtherValue);
+    }
     deposit_exc(lower_if(h, bucket), value, flag, ExcState::None, Edit::Keep)
 }
 

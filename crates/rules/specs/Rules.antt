@@ -36,7 +36,7 @@ excStateInvariants (ExcState.Claim bucket value) s l w = noLoad l && validBucket
 excStateInvariants (ExcState.PendingAwaitWriteback bucket value) s l w = noLoad l && validBucket bucket && holds s value
 excStateInvariants (ExcState.Pending bucket visited clean value) s l w =
     noLoad l && noWriteback w && leb (visited .0) buckets && validBucket bucket && holds s value
-excStateInvariants (ExcState.Obtained bucket clean) s l w = noLoad l && noWriteback w && validBucket bucket
+excStateInvariants (ExcState.Obtained bucket clean value) s l w = noLoad l && noWriteback w && validBucket bucket
 
 -- ---- rule 3: writeback_state_invariants, line 479
 abbrev pub writebackStateInvariants : WritebackState → Storage → LoadingState → Bool
@@ -81,7 +81,7 @@ excLets ExcState.None b = true
 excLets (ExcState.Claim bucket value) b = true
 excLets (ExcState.PendingAwaitWriteback bucket value) b = true
 excLets (ExcState.Pending bucket visited clean value) b = leb (visited .0) b
-excLets (ExcState.Obtained bucket clean) b = false
+excLets (ExcState.Obtained bucket clean value) b = false
 
 -- a reader past the first check may stand at this bucket (Pending2)
 abbrev pub mayPass : Flag → ExcState → LoadingState → ℕ → Bool

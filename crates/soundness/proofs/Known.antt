@@ -117,8 +117,8 @@ known-at (writebackAwait m v) cs t = search (inl, inr, never, its-own)
 known-at (await m v) cs t = search (inl, inr, never, no-archive, its-own)
 known-at (pending m n true v) cs t = search (inl, inr, never, no-archive, its-own)
 known-at (pending m n false v) cs t = search (inl, inr, never, no-archive, its-own)
-known-at (editing m true) cs t = search (inl, inr, never, no-archive)
-known-at (editing m false) cs t = search (inl, inr, never, no-archive)
+known-at (editing m true v) cs t = search (inl, inr, never, no-archive)
+known-at (editing m false v) cs t = search (inl, inr, never, no-archive)
 
 pub known : {h : Head} {l : List Reader} → Sound h l → Known h
 known {h} s = by-shape (λ (x : Head). Known x) known-at h (s .head)
@@ -137,7 +137,7 @@ within-at (writebackClaimed m v) cs t = simp and-iff ((t, tt), tt)
 within-at (writebackAwait m v) cs t = simp and-iff ((t, tt), tt)
 within-at (await m v) cs t = simp and-iff ((t, tt), tt)
 within-at (pending m n clean v) cs t = let u = simp and-iff at t in simp and-iff ((u .1, tt), u .0)
-within-at (editing m clean) cs t = simp and-iff ((t, tt), tt)
+within-at (editing m clean v) cs t = simp and-iff ((t, tt), tt)
 
 module _ {h : Head} {l : List Reader} (s : Sound h l) where
   -- they are within their limits by rules 2 and 4, without rule 8
@@ -157,7 +157,7 @@ closed-lets ExcState.None b t k u = t
 closed-lets (ExcState.Claim m v) b t k u = t
 closed-lets (ExcState.PendingAwaitWriteback m v) b t k u = t
 closed-lets (ExcState.Pending m n c v) b t k u = omega (arith, eqb→eq (n .0) buckets t, leb→le (n .0) b u)
-closed-lets (ExcState.Obtained m c) b t k u = u
+closed-lets (ExcState.Obtained m c v) b t k u = u
 
 -- beside it nobody may be past the first check
 pub closed-passing : (h : Head) (b : ℕ) → T (isClosed (h .«exc_state»)) → b < buckets → T (passing h b) → ⊥

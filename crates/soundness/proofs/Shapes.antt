@@ -38,7 +38,7 @@ pub data Shape : Type 0 where
   writebackAwait : (bucket : MaybeBucket) (value : ℕ) → Shape
   await : (bucket : MaybeBucket) (value : ℕ) → Shape
   pending : (bucket : MaybeBucket) (visited : Visited) (clean : Bool) (value : ℕ) → Shape
-  editing : (bucket : MaybeBucket) (clean : Bool) → Shape
+  editing : (bucket : MaybeBucket) (clean : Bool) (value : ℕ) → Shape
 
 -- the head of a shape, with these counts
 abbrev pub headAt : Shape → List Count → Head
@@ -53,7 +53,7 @@ headAt (writebackClaimed m v) cs = headWith (Storage.In v) Flag.WritebackAndClai
 headAt (writebackAwait m v) cs = headWith (Storage.In v) Flag.WritebackAndPendingExcLock cs (ExcState.PendingAwaitWriteback m v) LoadingState.None (WritebackState.Held v)
 headAt (await m v) cs = headWith (Storage.In v) Flag.PendingExcLock cs (ExcState.PendingAwaitWriteback m v) LoadingState.None WritebackState.None
 headAt (pending m n clean v) cs = headWith (Storage.In v) (lockFlag clean) cs (ExcState.Pending m n clean v) LoadingState.None WritebackState.None
-headAt (editing m clean) cs = headWith Storage.Out (lockFlag clean) cs (ExcState.Obtained m clean) LoadingState.None WritebackState.None
+headAt (editing m clean v) cs = headWith Storage.Out (lockFlag clean) cs (ExcState.Obtained m clean v) LoadingState.None WritebackState.None
 
 -- its bucket is 0 to 3, and its visited number at most 4
 abbrev pub valid : Shape → Bool
@@ -68,7 +68,7 @@ valid (writebackClaimed m v) = validBucket m
 valid (writebackAwait m v) = validBucket m
 valid (await m v) = validBucket m
 valid (pending m n clean v) = leb (n .0) buckets && validBucket m
-valid (editing m clean) = validBucket m
+valid (editing m clean v) = validBucket m
 
 -- beside a loader there is no exclusive holder
 pub loads-alone : (e : ExcState) (s : Storage) (l : LoadingState) (w : WritebackState)
@@ -77,7 +77,7 @@ loads-alone ExcState.None s l w t n = refl
 loads-alone (ExcState.Claim m v) s l w t n = absurd (rw n at t)
 loads-alone (ExcState.PendingAwaitWriteback m v) s l w t n = absurd (rw n at t)
 loads-alone (ExcState.Pending m k c v) s l w t n = absurd (rw n at t)
-loads-alone (ExcState.Obtained m c) s l w t n = absurd (rw n at t)
+loads-alone (ExcState.Obtained m c v) s l w t n = absurd (rw n at t)
 
 -- ---- a sound head has a shape
 -- the rules of the head, apart
@@ -133,7 +133,7 @@ module _ (s : Storage) (e : ExcState) (l : LoadingState) (w : WritebackState) wh
 
   -- an editor that is Pending or Obtained
   locks : (clean : Bool) → HeadRules s (lockFlag clean) e l w → w ≡ WritebackState.None
-      → (e ≡ ExcState.Pending (excBucket e) (excVisited e) clean (excValue e)) ⊎ (e ≡ ExcState.Obtained (excBucket e) clean)
+      → (e ≡ ExcState.Pending (excBucket e) (excVisited e) clean (excValue e)) ⊎ (e ≡ ExcState.Obtained (excBucket e) clean (excValue e))
       → Shaped (lockFlag clean)
   locks clean r c (inl a) =
       let k = simp and-iff at (rw a at (r .exc)) in
@@ -143,7 +143,7 @@ module _ (s : Storage) (e : ExcState) (l : LoadingState) (w : WritebackState) wh
   locks clean r c (inr a) =
       let k = simp and-iff at (rw a at (r .exc)) in
       let b = no-load l (k .0 .0) in
-      rw (a, c, b, is-out s (rw (a, b) at (r .storage))) (editing (excBucket e) clean, k .1, λ cs. refl)
+      rw (a, c, b, is-out s (rw (a, b) at (r .storage))) (editing (excBucket e) clean (excValue e), k .1, λ cs. refl)
 
   view : (f : Flag) → HeadRules s f e l w → Shaped f
   view Flag.Unmapped r =
@@ -211,8 +211,8 @@ shaped (writebackAwait m v) cs t = simp (eq-eqb v v refl, to-true (validBucket m
 shaped (await m v) cs t = simp (eq-eqb v v refl, to-true (validBucket m) t) tt
 shaped (pending m n true v) cs t = simp (eq-eqb v v refl, to-true (leb (n .0) buckets && validBucket m) t) tt
 shaped (pending m n false v) cs t = simp (eq-eqb v v refl, to-true (leb (n .0) buckets && validBucket m) t) tt
-shaped (editing m true) cs t = simp (to-true (validBucket m) t) tt
-shaped (editing m false) cs t = simp (to-true (validBucket m) t) tt
+shaped (editing m true v) cs t = simp (to-true (validBucket m) t) tt
+shaped (editing m false v) cs t = simp (to-true (validBucket m) t) tt
 
 -- what holds of every valid shape holds of every sound head
 pub by-shape : (P : Head → Type 0) → ((z : Shape) (cs : List Count) → T (valid z) → P (headAt z cs))

@@ -30,7 +30,8 @@ pub fn any_page(random: &mut Random, walked: &[Page]) -> Image {
 }
 
 /// One field changed to something that it can be, or one bit of the bytes that
-/// have a meaning.
+/// have a meaning. Of the exclusive kinds 4 and 6 are drawn too, which no holder
+/// has.
 pub fn change(random: &mut Random, image: Image) -> Image {
     let bucket = random.pick(&[0, 1, 2, 3, 4, 200, 255]);
     let length = u16::from_le_bytes([image.0[place::LENGTH], image.0[place::LENGTH + 1]]);
@@ -40,7 +41,7 @@ pub fn change(random: &mut Random, image: Image) -> Image {
         2 => image.set(place::STORAGE_IN, random.byte_below(2)),
         3 => image.value(place::STORAGE, random.value()),
         4 => image.length(random.pick(&[0, 1, length ^ 1, 64, 65, 65_535])),
-        5 => image.set(place::EXC_KIND, random.byte_below(5)),
+        5 => image.set(place::EXC_KIND, random.byte_below(7)),
         6 => image.set(place::EXC_BUCKET, bucket),
         7 => image.set(place::VISITED, random.byte_below(6)),
         8 => image.set(place::CLEAN, random.byte_below(2)),
@@ -107,7 +108,11 @@ fn any_exc_state(random: &mut Random, value: u64) -> Option<ExcState> {
             clean,
             value,
         }),
-        3 => Some(ExcState::Obtained { bucket, clean }),
+        3 => Some(ExcState::Obtained {
+            bucket,
+            clean,
+            value,
+        }),
         _ => None,
     }
 }
@@ -151,7 +156,7 @@ fn any_bytes(random: &mut Random) -> Image {
         *byte = random.byte();
     }
     bytes[place::FLAG] %= 11;
-    bytes[place::EXC_KIND] %= 5;
+    bytes[place::EXC_KIND] = random.pick(&[0, 1, 2, 3, 5]);
     bytes[place::LOADER_KIND] %= 4;
     for place in [place::STORAGE_IN, place::CLEAN, place::WRITEBACK_IN] {
         bytes[place] %= 2;

@@ -5,6 +5,7 @@
 //! by its seed. The same seed and size always give the same bytes.
 
 pub mod back;
+pub mod clean;
 pub mod damage;
 pub mod drawn;
 pub mod ends;
@@ -72,6 +73,7 @@ pub fn stream(plan: &Plan) -> Vec<u8> {
     scripts::play(&mut stream, &mut random);
     scripts::play_situations(&mut stream, &mut random, plan);
     returns::play(&mut stream, &mut random, plan);
+    clean::play(&mut stream, &mut random, plan);
     damage::play(&mut stream, plan);
     back::play(&mut stream, &mut random);
     runs::play(&mut stream, &mut random, plan);

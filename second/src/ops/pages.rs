@@ -10,7 +10,7 @@ use super::returns::of_kind;
 use super::situations::{
     self, available, claimed, claimed_counted, editing, editing_uncounted, load_counted,
     load_pending, loading, loading_uncounted, pending, unmapped, visited, visiting, writeback,
-    writeback_and_claimed, writeback_and_pending, LOADED,
+    writeback_and_claimed, writeback_and_pending, LOADED, OTHER,
 };
 use super::stream::Stream;
 use super::walks::Hand;
@@ -65,9 +65,6 @@ pub fn main_pages() -> Vec<(u8, Image)> {
     ]
 }
 
-/// A value that a loaded page does not have.
-const OTHER: u64 = LOADED + 1;
-
 /// How many readers `available` has.
 const READERS: usize = 6;
 
@@ -97,7 +94,7 @@ fn holders_apart() -> Vec<(u8, Image)> {
         (2, after(&visiting()).set(WRITEBACK_IN, 1)),
         (2, after(&editing()).set(WRITEBACK_IN, 1)),
         (2, loading.clone().set(EXC_KIND, 1)),
-        (2, loading.clone().set(EXC_KIND, 4)),
+        (2, loading.clone().set(EXC_KIND, 5)),
         (3, loading.set(WRITEBACK_IN, 1)),
         (
             3,
@@ -193,7 +190,8 @@ pub fn without_meaning() -> Vec<Vec<u8>> {
         changed(place::STORAGE_IN, 2),
         changed(place::CLEAN, 2),
         changed(place::WRITEBACK_IN, 255),
-        changed(place::EXC_KIND, 5),
+        changed(place::EXC_KIND, 6),
+        after(&editing()).set(place::EXC_KIND, 4).0.to_vec(),
         changed(place::LOADER_KIND, 4),
         changed(entry_place(0), 4),
         changed(entry_place(63), 255),

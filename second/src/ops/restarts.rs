@@ -32,7 +32,7 @@ pub fn main_kept() -> Vec<Page> {
         busy(),
         page_of(&pending(), SPREAD),
         page_of(&visited(), 0),
-        page_of(&editing_uncounted(), 0),
+        page_of(&editing_uncounted(), SPREAD),
         page_of(&load_pending(), 0),
         page_of(&load_counted(), 0),
         page_of(&loading_uncounted(), 0),
@@ -104,8 +104,9 @@ fn ceiling() -> Vec<Draft> {
 
 /// What one that does not look closely takes for an image: zeros alone, a length
 /// of 256 more, a byte in a gap, a listed reader of phase 0, what a Pending reader
-/// does not have, a blank that is written out, and a byte at the very end. Where
-/// there are several places of a kind, they go round with the seed.
+/// does not have, a blank that is written out, a byte at the very end, and editors
+/// of kind 4, clean and not, which say nothing of what was taken. Where there are
+/// several places of a kind, they go round with the seed.
 fn main_damaged(plan: &Plan) -> Vec<Image> {
     let [_, gap, _] = place::GAPS;
     let pending = busy_entry(0);
@@ -119,7 +120,15 @@ fn main_damaged(plan: &Plan) -> Vec<Image> {
         busy(plan.one_of(pending + 2..pending + RECORD), 1),
         busy(past, 1),
         busy(plan.one_of(IMAGE - 8..IMAGE), 1),
+        untold(&editing()),
+        untold(&editing_uncounted()),
     ]
+}
+
+/// An editor of kind 4, and zeros where its value is.
+fn untold(editing: &[Draft]) -> Image {
+    let image = after(editing).set(place::EXC_KIND, 4);
+    image.value(place::EXC_VALUE, 0)
 }
 
 /// Where the busy page has its first reader of this phase.
@@ -141,7 +150,8 @@ fn more_damaged(plan: &Plan) -> Vec<Image> {
     vec![
         after(&visiting()).set(FLAG, 11),
         after(&available()).set(STORAGE_IN, 2),
-        after(&editing()).set(EXC_KIND, 5),
+        after(&editing()).set(EXC_KIND, 6),
+        after(&editing()).set(EXC_KIND, 4),
         after(&visited()).set(CLEAN, 2),
         after(&loading()).set(LOADER_KIND, 4),
         after(&writeback()).set(WRITEBACK_IN, 2),
@@ -162,7 +172,6 @@ fn more_damaged(plan: &Plan) -> Vec<Image> {
         after(&pending()).set(CLEAN, 1),
         after(&loading()).value(STORAGE, LOADED),
         after(&editing()).value(STORAGE, LOADED),
-        after(&editing()).value(EXC_VALUE, LOADED),
         after(&writeback()).value(EXC_VALUE, LOADED),
         after(&claimed_counted()).value(WRITEBACK, LOADED),
         of(&busy()).value(busy_entry(1) + 8, LOADED),
@@ -206,7 +215,7 @@ pub fn play(stream: &mut Stream, random: &mut Random, plan: &Plan, walked: &[Pag
     for room in ROOMS {
         stream.write_image(room);
     }
-    for page in plan.share(more_kept(plan), 30) {
+    for page in plan.share(more_kept(plan), 32) {
         restore(stream, random, &of(&page));
     }
     let damaged = main_damaged(plan)

@@ -24,8 +24,9 @@ const WAITING: [Draft; 8] = [
 ];
 
 /// What a claimant gives back that has visited all buckets, and what it does as
-/// an editor. Then the page is loaded again, beside a reader at bucket 0.
-const VISITING: [Draft; 16] = [
+/// an editor; a clean one asks with another value first. Then the page is loaded
+/// again, beside a reader at bucket 0.
+const VISITING: [Draft; 17] = [
     step(28),
     step(20).at(1),
     step(5),
@@ -40,6 +41,7 @@ const VISITING: [Draft; 16] = [
     step(8),
     step(19),
     step(30).of(3),
+    step(30).of(9),
     step(12),
     step(17).of(LOADED),
 ];
@@ -103,7 +105,8 @@ const EDITOR: [Draft; 7] = [
 
 /// What editors do that come without a bucket, each with the clean choice that it
 /// has made. Some get a bucket. They put the page in beside a reader, which stays,
-/// and where it is unmapped it is loaded again.
+/// and where it is unmapped it is loaded again. Whoever is clean asks with another
+/// value first.
 const EDITORS: [(u8, &[Draft]); 4] = [
     (
         0,
@@ -125,13 +128,17 @@ const EDITORS: [(u8, &[Draft]); 4] = [
             step(18).at(1),
             step(19).at(1),
             step(30).of(5),
+            step(30).of(EDGES[1]),
             step(12),
             step(23).at(1),
             step(17).of(6),
             step(21).at(1),
         ],
     ),
-    (1, &[step(19), step(29).of(EDGES[0]), step(20)]),
+    (
+        1,
+        &[step(19), step(29).of(EDGES[0]), step(29).of(6), step(20)],
+    ),
     (0, &[step(29).of(LOADED), step(3), step(25)]),
 ];
 
@@ -151,7 +158,8 @@ fn editors() -> Vec<Draft> {
 }
 
 /// All that a holder at this bucket can give back, each from where it is accepted.
-/// The claimant turns back before it visits its own bucket.
+/// The claimant turns back before it visits its own bucket. One of the two editors
+/// is clean, and puts in just its second value.
 fn all_at(bucket: u8) -> Vec<Draft> {
     let claim = step(4).at(bucket).of(LOADED);
     let clean = bucket % 2;
@@ -178,6 +186,7 @@ fn all_at(bucket: u8) -> Vec<Draft> {
         step(7).times(4),
         step(8),
         step(29).of(9),
+        step(29).of(LOADED),
         step(3),
         step(5),
         step(6).clean(clean),
@@ -185,6 +194,7 @@ fn all_at(bucket: u8) -> Vec<Draft> {
         step(8),
         step(18).at(bucket),
         step(30).of(3),
+        step(30).of(9),
         step(11),
         step(13).at(bucket),
         step(14),
@@ -200,7 +210,7 @@ pub fn of_kind(holder: ExcState) -> Vec<Draft> {
         ExcState::Claim { .. } => vec![step(25), step(26)],
         ExcState::PendingAwaitWriteback { .. } => vec![step(27)],
         ExcState::Pending { .. } => vec![step(28)],
-        ExcState::Obtained { .. } => vec![step(29).of(LOADED), step(30).of(LOADED)],
+        ExcState::Obtained { value, .. } => vec![step(29).of(value), step(30).of(value)],
     }
 }
 
@@ -233,7 +243,7 @@ pub fn play(stream: &mut Stream, random: &mut Random, plan: &Plan) {
 }
 
 /// Each request by value and, from the beginning again, with the page lent.
-fn play_single(stream: &mut Stream, script: &[Draft]) {
+pub fn play_single(stream: &mut Stream, script: &[Draft]) {
     for lent in [false, true] {
         stream.fresh(0);
         stream.lend_next(lent);

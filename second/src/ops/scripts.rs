@@ -2,9 +2,10 @@
 //! readers, loads without a bucket, values of all 64 bits, and every step in
 //! every situation.
 
+use super::clean::DEPOSITS;
 use super::random::Random;
 use super::request::{records, step, Draft, EDGES};
-use super::situations::{self, LOADED, PREFETCHES};
+use super::situations::{self, LOADED, OTHER, PREFETCHES};
 use super::stream::Stream;
 use super::Plan;
 use crate::raw::IMAGE;
@@ -106,6 +107,7 @@ const CASES: [&[Draft]; 12] = [
         step(8),
         step(18).at(3),
         step(10).of(6),
+        step(10).of(5),
     ],
     &[
         step(25),
@@ -165,7 +167,7 @@ const EQUAL_READERS: [&[Draft]; 3] = [
 /// How a page gets its first value.
 const LOAD: [Draft; 4] = [step(11), step(13), step(14), step(17).of(LOADED)];
 
-/// How an editor without a bucket comes to the page.
+/// How an editor without a bucket comes to the page, which it takes as clean.
 const EDIT: [Draft; 5] = [
     step(3),
     step(5),
@@ -175,7 +177,7 @@ const EDIT: [Draft; 5] = [
 ];
 
 /// So many readers at each bucket.
-const fn readers(numbers: [usize; 4]) -> [Draft; 4] {
+pub const fn readers(numbers: [usize; 4]) -> [Draft; 4] {
     [
         step(19).times(numbers[0]),
         step(19).at(1).times(numbers[1]),
@@ -257,11 +259,12 @@ fn ceilings() -> Vec<Ceiling> {
                 step(18).at(2),
                 step(18),
                 step(10).of(9),
+                step(10).of(LOADED),
                 step(25),
             ],
         ),
         // An editor and a full list: it can keep its claim, but it cannot stay
-        // as a reader.
+        // as a reader. That its value is another one is told last.
         (
             [load, edit, &readers([15, 16, 16, 17])].concat(),
             vec![
@@ -271,6 +274,7 @@ fn ceilings() -> Vec<Ceiling> {
                 step(19).at(1),
                 step(20).at(3),
                 step(9).of(1),
+                step(9).of(LOADED),
                 step(19),
             ],
         ),
@@ -303,6 +307,7 @@ fn ceilings() -> Vec<Ceiling> {
             vec![
                 step(19).at(1),
                 step(29).of(9),
+                step(29).of(LOADED),
                 step(19).at(1),
                 step(29).of(9),
             ],
@@ -313,6 +318,7 @@ fn ceilings() -> Vec<Ceiling> {
             vec![
                 step(19).at(3),
                 step(30).of(9),
+                step(30).of(LOADED),
                 step(19).at(3),
                 step(20).at(2),
                 step(19).at(3).times(2),
@@ -323,8 +329,8 @@ fn ceilings() -> Vec<Ceiling> {
     ]
 }
 
-/// The page's way through a reader, a claimant and an editor, and what each
-/// refuses that asks with another value.
+/// The page's way through a reader, a claimant and two editors, and what each
+/// refuses that asks with another value. The second editor is the clean one.
 fn values(first: u64, second: u64, third: u64) -> Vec<Draft> {
     vec![
         step(11),
@@ -345,10 +351,14 @@ fn values(first: u64, second: u64, third: u64) -> Vec<Draft> {
         step(7).times(4),
         step(8),
         step(9).of(third),
+        step(9).of(second ^ 1 << 63),
+        step(9).of(second ^ 1 << 32),
+        step(9).of(second ^ 1),
+        step(9).of(second),
         step(1),
         step(2),
-        step(22).at(3).of(second),
         step(22).at(3).of(third),
+        step(22).at(3).of(second),
     ]
 }
 
@@ -484,9 +494,11 @@ pub fn play_situations(stream: &mut Stream, random: &mut Random, plan: &Plan) {
     }
 }
 
-/// A good request of every step, at two buckets where it takes one.
+/// A good request of every step, at two buckets where it takes one, and with two
+/// values where an editor puts the page in.
 fn every_step() -> Vec<[u8; RECORD]> {
     let mut requests = vec![step(6).clean(1).bytes()];
+    requests.extend(DEPOSITS.map(|number| step(number).of(OTHER).bytes()));
     for number in 1..=30 {
         let value = if takes_value(number) { LOADED } else { 0 };
         let buckets: &[u8] = if takes_bucket(number) { &[1, 3] } else { &[0] };

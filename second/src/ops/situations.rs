@@ -8,6 +8,9 @@ use crate::run::answer_line;
 /// The value that a loaded page has.
 pub const LOADED: u64 = 7;
 
+/// A value that a loaded page does not have.
+pub const OTHER: u64 = LOADED + 1;
+
 /// The two ways to a loader that has the page and no bucket.
 pub const PREFETCHES: [&[Draft]; 2] = [&[step(12)], &[step(11), step(15)]];
 
@@ -30,7 +33,9 @@ pub fn all() -> Vec<Vec<Draft>> {
         visiting(),
         visited(),
         editing(),
+        editing_dirty(),
         editing_uncounted(),
+        editing_uncounted_clean(),
     ]
 }
 
@@ -138,8 +143,13 @@ pub fn visiting() -> Vec<Draft> {
     then(pending(), &[step(6)])
 }
 
-/// A claimant at bucket 2 that has visited all four, and a reader since.
+/// A claimant at bucket 2 that has visited all four, and a reader since. It takes
+/// the page as clean.
 pub fn visited() -> Vec<Draft> {
+    visited_as(1)
+}
+
+fn visited_as(clean: u8) -> Vec<Draft> {
     let script = [
         step(11),
         step(13).at(2),
@@ -147,7 +157,7 @@ pub fn visited() -> Vec<Draft> {
         step(16).of(LOADED),
         step(4).at(2).of(LOADED),
         step(5),
-        step(6).clean(1),
+        step(6).clean(clean),
         step(7).times(4),
         step(19).at(1),
     ];
@@ -159,8 +169,22 @@ pub fn editing() -> Vec<Draft> {
     then(visited(), &[step(8)])
 }
 
-/// An editor without a bucket.
+/// The same, but the page was not taken as clean.
+pub fn editing_dirty() -> Vec<Draft> {
+    then(visited_as(0), &[step(8)])
+}
+
+/// An editor without a bucket, who did not take the page as clean.
 pub fn editing_uncounted() -> Vec<Draft> {
+    uncounted_as(0)
+}
+
+/// An editor without a bucket, who took the page as clean.
+pub fn editing_uncounted_clean() -> Vec<Draft> {
+    uncounted_as(1)
+}
+
+fn uncounted_as(clean: u8) -> Vec<Draft> {
     let script = [
         step(11),
         step(13).at(2),
@@ -168,7 +192,7 @@ pub fn editing_uncounted() -> Vec<Draft> {
         step(17).of(LOADED),
         step(3),
         step(5),
-        step(6),
+        step(6).clean(clean),
         step(7).times(4),
         step(8),
         step(19).at(1),

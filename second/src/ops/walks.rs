@@ -1,13 +1,14 @@
 //! Long walks: requests drawn one after the other, most of them such as the
 //! page accepts where it stands.
 
+use super::clean::DEPOSITS;
 use super::damage::one_wrong;
 use super::random::Random;
 use super::request::{records, step, Draft};
 use super::situations::PREFETCHES;
 use super::stream::Stream;
 use super::Plan;
-use crate::kinds::SharedState;
+use crate::kinds::{ExcState, Refusal, SharedState};
 use crate::raw::IMAGE;
 use crate::record::Page;
 use crate::run::answer_line;
@@ -250,19 +251,21 @@ impl Hand {
         requests
     }
 
+    /// One that the page accepts, if it is found soon. One that is refused for its
+    /// value alone will do, too.
     fn accepted(&self, random: &mut Random, page: &Page) -> [u8; RECORD] {
         let mut request = self.fitting(random, page);
         for _ in 1..TRIES {
-            if answer_line(&mut page.clone(), &request).is_ok() {
-                break;
+            match answer_line(&mut page.clone(), &request) {
+                Ok(_) | Err(Refusal::OtherValue) => break,
+                Err(_) => request = self.fitting(random, page),
             }
-            request = self.fitting(random, page);
         }
         request
     }
 
     /// A good request whose fields fit the page, as far as one can tell from
-    /// its readers and its storage.
+    /// its readers, its storage and what an editor keeps.
     fn fitting(&self, random: &mut Random, page: &Page) -> [u8; RECORD] {
         let number = random.pick(&self.steps);
         let mut draft = step(number);
@@ -298,10 +301,23 @@ impl Hand {
     }
 }
 
-/// The page's own value where the step asks for it, mostly.
+/// The page's own value where the step asks for it, mostly; and half the time what
+/// the editor keeps, where it puts the page in.
 fn fitting_value(random: &mut Random, page: &Page, number: u8) -> u64 {
-    match page.storage {
-        Some(value) if matches!(number, 4 | 22) && !random.one_in(12) => value,
+    match (page.storage, page.exc_state) {
+        (Some(value), _) if matches!(number, 4 | 22) && !random.one_in(12) => value,
+        (None, Some(ExcState::Obtained { value, .. })) if DEPOSITS.contains(&number) => {
+            kept_or_not(random, value)
+        }
+        _ => random.value(),
+    }
+}
+
+/// This value half the time, else one that is another in one bit, or any.
+fn kept_or_not(random: &mut Random, value: u64) -> u64 {
+    match random.below(4) {
+        0 | 1 => value,
+        2 => value ^ 1 << random.below(64),
         _ => random.value(),
     }
 }

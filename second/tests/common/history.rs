@@ -14,6 +14,10 @@ pub struct History {
     latest_13: Option<usize>,
     /// The bucket that the latest 4 or 18 named, unless a 3 was accepted since.
     editor: Option<usize>,
+    /// Whether the latest 6 chose clean.
+    clean: bool,
+    /// The value that a clean editor took, while it has the page out.
+    taken_clean: Option<StoredType>,
     /// The value last put in, where it is known.
     last_put_in: Option<StoredType>,
     out: bool,
@@ -24,13 +28,17 @@ impl History {
     pub fn before(page: &Page) -> History {
         let loader = page.loading_state.and_then(LoadingState::bucket);
         let editor = page.exc_state.and_then(ExcState::bucket);
+        let clean = page.exc_state.is_some_and(chose_clean);
+        let kept = page.exc_state.and_then(kept);
         History {
             counts: page.ref_counts.map(|count| usize::from(count.0)),
             arrivals: [0; 4],
             departures: [0; 4],
             latest_13: loader.map(BucketId::index),
             editor: editor.map(BucketId::index),
-            last_put_in: page.storage,
+            clean,
+            taken_clean: kept.filter(|_| clean),
+            last_put_in: page.storage.or(kept),
             out: page.storage.is_none(),
         }
     }
@@ -45,6 +53,7 @@ impl History {
             13 => self.latest_13 = Some(bucket),
             3 => self.editor = None,
             4 | 18 => self.editor = Some(bucket),
+            6 => self.clean = request.clean == 1,
             _ => (),
         }
     }
@@ -72,16 +81,27 @@ impl History {
                 self.out = true;
                 assert!(withdrawn.is_some());
                 assert_eq!(withdrawn, self.last_put_in);
+                if request.step == 8 && self.clean {
+                    self.taken_clean = withdrawn;
+                }
                 return;
             }
             9 | 10 | 16 | 17 | 29 | 30 => {
                 assert!(self.out, "put in twice");
                 self.out = false;
                 self.last_put_in = Some(request.value);
+                if let Some(taken) = self.taken_clean.take() {
+                    assert_eq!(request.value, taken, "clean means clean");
+                }
             }
             _ => (),
         }
         assert_eq!(withdrawn, None);
+    }
+
+    /// Whether an editor that chose clean has the page out.
+    pub fn out_clean(&self) -> bool {
+        self.taken_clean.is_some()
     }
 
     /// All that RULES 9 says of the page that this past leads to.
@@ -93,6 +113,8 @@ impl History {
             assert_eq!(count, count_all_refs(page, bucket), "{page:?}");
         }
         assert_eq!(page.storage, self.last_put_in.filter(|_| !self.out));
+        let clean = page.exc_state.filter(|&holder| chose_clean(holder));
+        assert_eq!(clean.and_then(kept), self.taken_clean, "{page:?}");
         for value in held(page) {
             assert_eq!(Some(value), self.last_put_in, "{page:?}");
         }
@@ -107,7 +129,23 @@ impl History {
     }
 }
 
-/// Every value that a reader, a claimant or the writeback holds.
+/// Whether the holder has chosen clean.
+fn chose_clean(holder: ExcState) -> bool {
+    matches!(
+        holder,
+        ExcState::Pending { clean: true, .. } | ExcState::Obtained { clean: true, .. }
+    )
+}
+
+/// The value that the holder keeps, if it has the page out.
+fn kept(holder: ExcState) -> Option<StoredType> {
+    match holder {
+        ExcState::Obtained { value, .. } => Some(value),
+        _ => None,
+    }
+}
+
+/// Every value that a reader, an exclusive holder or the writeback has.
 fn held(page: &Page) -> Vec<StoredType> {
     let readers = page.shared_state.listed().iter();
     let mut values: Vec<StoredType> = readers
@@ -117,13 +155,11 @@ fn held(page: &Page) -> Vec<StoredType> {
         })
         .collect();
     values.extend(page.writeback_state.map(|writeback| writeback.value));
-    values.extend(match page.exc_state {
-        Some(
-            ExcState::Claim { value, .. }
-            | ExcState::PendingAwaitWriteback { value, .. }
-            | ExcState::Pending { value, .. },
-        ) => Some(value),
-        _ => None,
-    });
+    values.extend(page.exc_state.map(|holder| match holder {
+        ExcState::Claim { value, .. }
+        | ExcState::PendingAwaitWriteback { value, .. }
+        | ExcState::Pending { value, .. }
+        | ExcState::Obtained { value, .. } => value,
+    }));
     values
 }

@@ -3,9 +3,9 @@
 -- the source takes something for granted (Reach.antt, Granted.antt), and for `as nat`: a reader that is listed, and a holder
 -- that has a bucket, is counted. Assumes nothing.
 use Prim.Native.Nat.{ℕ, _+_, _-_, _≤_, _<_}
-use mathlib.Core.Path.{_≡_, refl, ap, _∙_}
+use mathlib.Core.Path.{_≡_, refl, sym, ap, _∙_}
 use mathlib.Core.Logic.{_≢_}
-use mathlib.Core.Bool.{Bool, true, false, cond}
+use mathlib.Core.Bool.{Bool, true, false, cond, true≢false}
 use mathlib.Core.List.{List, [], _∷_, _++_}
 use native.Mathlib.Omega.{arith}
 use borrow.Author.Tests.{eqb-true, eqb-false, eq-eqb}
@@ -31,7 +31,7 @@ use Rattle.requests.specs.Requests.{pastLast}
 use Rattle.requests.proofs.Verdicts.{passed}
 use Rattle.requests.proofs.Formed.{Formed}
 use Rattle.heads.specs.declared.Decision.{Decision}
-use Rattle.heads.specs.Decisions.{Step, settled, decided, reader}
+use Rattle.heads.specs.Decisions.{Step, settled, decided, reader, mayPutIn}
 use Rattle.heads.specs.Setters.{withNumber, lowerIf}
 use Rattle.editing.specs.Steps.{takeWriteback, releaseWriteback, bucketlessClaim, sharedToClaim, claimToPending}
 use Rattle.editing.specs.Steps.{takeExcLockFinishWriteback, takeExcLockCheckRefCount, withdrawTakeExcLockFinish}
@@ -45,7 +45,7 @@ use Rattle.steps.specs.Decide.{unknown}
 use Rattle.lock.specs.Step.{edited, lookFor, decidedOn}
 use Rattle.lock.specs.Words.{raising, listing}
 use Rattle.lock.specs.Moves.{Moves, RwLock, Field, stateWith, countOf, Elsewhere, Absent, Only, Room, answerOf}
-use Rattle.lock.specs.Moves.{pending, pending2, obtained, OneLess}
+use Rattle.lock.specs.Moves.{pending, pending2, obtained, OneLess, Unchanged}
 use Rattle.lock.proofs.Exact.Laws.{handed, is-handed, unrefused, stepNo, by-number, expected, Split, split}
 use Rattle.lock.proofs.Exact.Flags.{releases, awaits, lock-flag, opened, unclaims, unawaits}
 use Rattle.lock.proofs.Keeps.Counts.{set-there, set-others}
@@ -64,6 +64,11 @@ bit n k = go (eqb n 1) refl
     go : (t : Bool) → eqb n 1 ≡ t → n ≡ cond t 1 0
     go true e = eqb-true n 1 e
     go false e = let d : n ≢ 1 = eqb-false n 1 e in omega arith
+
+-- what a clean holder may put in is what it took
+unchanged : (clean : Bool) (taken value : ℕ) → T (mayPutIn clean taken value) → Unchanged clean taken value
+unchanged true taken value t e = eqb→eq value taken t
+unchanged false taken value t e = absurd (true≢false (sym e))
 
 module _ (h : Head) (l : List Reader) (q : Request) where
   -- the count at the request's bucket
@@ -201,13 +206,13 @@ module _ (h : Head) (l : List Reader) (q : Request) where
     fits9 : q .step ≡ 9 → Fits (decided h (depositDowngradeExcLock h q full))
     fits9 step =
         ran (depositDowngradeExcLock h q full) (λ p. roomy 9 step absurd λ _. nleb→lt capacity (length l) (p .1 .1 .0)) λ p out o.
-        Moves.deposit-downgrade-exc-lock _ _ _ step (is-editing _ (p .0), refl) (has-bucket _ (p .1 .0)) refl
-        (given .editing (p .0), refl) refl (search)
+        Moves.deposit-downgrade-exc-lock _ _ _ _ step (is-editing _ (p .0), refl) (has-bucket _ (p .1 .0))
+        (unchanged _ _ (q .value) (p .1 .1 .1 .0)) refl (given .editing (p .0), refl) refl (search)
 
     fits10 : q .step ≡ 10 → Fits (decided h (depositDowngradeExcLockToClaim h q))
     fits10 step = ran (depositDowngradeExcLockToClaim h q) (λ _. roomy 10 step absurd absurd) λ p out o.
-        Moves.deposit-downgrade-exc-lock-to-claim _ _ _ step (is-editing _ (p .0)) (has-bucket _ (p .1 .0)) refl
-        (given .editing (p .0), refl) refl (search)
+        Moves.deposit-downgrade-exc-lock-to-claim _ _ _ _ step (is-editing _ (p .0)) (has-bucket _ (p .1 .0))
+        (unchanged _ _ (q .value) (p .1 .1 .0)) refl (given .editing (p .0), refl) refl (search)
 
     fits11 : q .step ≡ 11 → Fits (decided h (withdrawAlloc h))
     fits11 step = ran (withdrawAlloc h) (λ _. roomy 11 step absurd absurd) λ p out o.
@@ -251,7 +256,7 @@ module _ (h : Head) (l : List Reader) (q : Request) where
     fits18 step = ran (excIncCount h q) (λ p. roomy 18 step (λ _. ltb→lt here ceiling (p .1 .1 .0)) absurd) λ p out o.
         let b = q .bucket in
         let below = formed .bucket in
-        Moves.exc-inc-count _ _ here step below (is-editing _ (p .0)) (no-bucket _ (p .1 .0)) refl refl
+        Moves.exc-inc-count _ _ _ here step below (is-editing _ (p .0)) (no-bucket _ (p .1 .0)) refl refl
         (there b (here + 1) below) (others b (here + 1) refl) (search)
 
     fits19 : q .step ≡ 19 → Fits (decided h (sharedIncCount h q full))
@@ -322,12 +327,14 @@ module _ (h : Head) (l : List Reader) (q : Request) where
 
     fits29 : q .step ≡ 29 → Fits (decided h (depositExcLockToDone h q))
     fits29 step = ran (depositExcLockToDone h q) (λ _. roomy 29 step absurd absurd) λ p out o.
-        Moves.deposit-exc-lock-to-done _ _ step (is-editing _ (p .0), refl) refl (given .editing (p .0), refl)
+        Moves.deposit-exc-lock-to-done _ _ _ step (is-editing _ (p .0), refl) (unchanged _ _ (q .value) (p .1 .0)) refl
+        (given .editing (p .0), refl)
         (exc-less (depositExcLockToDone h q .head) refl) (search)
 
     fits30 : q .step ≡ 30 → Fits (decided h (depositExcLockToUnmapped h q))
     fits30 step = ran (depositExcLockToUnmapped h q) (λ _. roomy 30 step absurd absurd) λ p out o.
-        Moves.deposit-exc-lock-to-unmapped _ _ step (is-editing _ (p .0), refl) refl (given .editing (p .0), refl)
+        Moves.deposit-exc-lock-to-unmapped _ _ _ step (is-editing _ (p .0), refl) (unchanged _ _ (q .value) (p .1 .0)) refl
+        (given .editing (p .0), refl)
         (exc-less (depositExcLockToUnmapped h q .head) refl) (search)
 
     -- all of them, by number; no step has number 0

@@ -21,12 +21,12 @@ use Rattle.page_record.specs.Pages.{numberAt, headWith}
 use Rattle.soundness.proofs.Facts.{Sound}
 use Rattle.requests.specs.declared.Request.{Request}
 use Rattle.heads.specs.declared.Decision.{Decision}
-use Rattle.heads.specs.Decisions.{decided}
+use Rattle.heads.specs.Decisions.{decided, mayPutIn}
 use Rattle.heads.specs.Setters.{withNumber, raise, lower, lowerIf}
 use Rattle.reading.specs.Steps.{sharedDecCount}
 use Rattle.lock.specs.Step.{edited, lookFor, decidedOn}
 use Rattle.lock.specs.Moves.{Moves, Field, stateWith, countOf, Elsewhere, Absent, Only, Room, answerOf, obtained}
-use Rattle.lock.specs.Moves.{pending, pending2, OneLess}
+use Rattle.lock.specs.Moves.{pending, pending2, OneLess, Unchanged}
 use Rattle.lock.proofs.Exact.Laws.{Accepts, stepNo, by-number, is-expected, find-first, is-set}
 use Rattle.lock.proofs.Exact.Flags.{is-released, is-claimed, is-awaited, done, lock-flag, is-open, unloaded}
 use Rattle.lock.proofs.Exact.Flags.{is-unclaimed, is-unawaited}
@@ -55,6 +55,11 @@ took p = record {
 is-clean : (clean : Bool) → eqb (cond clean 1 0) 1 ≡ clean
 is-clean true = refl
 is-clean false = refl
+
+-- what a clean holder puts in is what it took
+may-put : (clean : Bool) (taken value : ℕ) → Unchanged clean taken value → mayPutIn clean taken value ≡ true
+may-put true taken value same = eq-eqb value taken (same refl)
+may-put false taken value same = refl
 
 -- ---- the transitions
 module _ (h : Head) (l : List Reader) (q : Request) (h′ : Head) (l′ : List Reader) (out : Storage) (s : Sound h l) where
@@ -134,11 +139,11 @@ module _ (h : Head) (l : List Reader) (q : Request) (h′ : Head) (l′ : List R
       step-is 7 step (rw (remove, lt-ltb (visited .0) buckets require, eq-eqb _ _ found) (took (search)))
   takes (Moves.withdraw-take-exc-lock-finish bucket visited clean value step remove require add withdraw only) room =
       step-is 8 step (rw (remove, eq-eqb (visited .0) buckets require) (took (search)))
-  takes (Moves.deposit-downgrade-exc-lock bucket clean some step remove require update deposit add only) room =
+  takes (Moves.deposit-downgrade-exc-lock bucket clean taken some step remove require same update deposit add only) room =
       let free : length l < capacity = room .free (rw step tt) in
-      step-is 9 step (rw (remove .0, require, lt-leb capacity (length l) free) (took (search)))
-  takes (Moves.deposit-downgrade-exc-lock-to-claim bucket clean some step remove require update deposit add only) room =
-      step-is 10 step (rw (remove, require) (took (search)))
+      step-is 9 step (rw (remove .0, require, lt-leb capacity (length l) free, may-put clean taken (q .value) same) (took (search)))
+  takes (Moves.deposit-downgrade-exc-lock-to-claim bucket clean taken some step remove require same update deposit add only) room =
+      step-is 10 step (rw (remove, require, may-put clean taken (q .value) same) (took (search)))
   takes (Moves.withdraw-alloc any step require update add withdraw only) room =
       step-is 11 step (rw (require, withdraw .0) (took (search)))
   takes (Moves.withdraw-alloc-no-refcount any step require update add withdraw only) room =
@@ -157,7 +162,7 @@ module _ (h : Head) (l : List Reader) (q : Request) (h′ : Head) (l′ : List R
   takes (Moves.deposit-loading-to-done bucket step remove update deposit less only) room =
       let counts = own-less bucket (loading-valid bucket (remove .0)) less in
       step-is 17 step (rw (remove .0) (took (search)))
-  takes (Moves.exc-inc-count none clean n step below remove require was add is elsewhere only) room =
+  takes (Moves.exc-inc-count none clean taken n step below remove require was add is elsewhere only) room =
       let under : countOf (stateWith h l) (q .bucket) < ceiling = room .under (rw step tt) in
       let counts = one-more (q .bucket) below elsewhere n was is in
       step-is 18 step (rw (remove, require, lt-ltb _ ceiling under) (took (search)))
@@ -193,9 +198,9 @@ module _ (h : Head) (l : List Reader) (q : Request) (h′ : Head) (l′ : List R
       step-is 27 step (rw remove (took (search)))
   takes (Moves.cancel-exc-lock-to-claim bucket visited clean value step remove add update only) room =
       step-is 28 step (rw remove (took (search)))
-  takes (Moves.deposit-exc-lock-to-done bucket clean step remove update deposit less only) room =
-      let counts = own-less bucket (exc-valid (ExcState.Obtained bucket clean) (remove .0)) less in
-      step-is 29 step (rw (remove .0) (took (search)))
-  takes (Moves.deposit-exc-lock-to-unmapped bucket clean step remove update deposit less only) room =
-      let counts = own-less bucket (exc-valid (ExcState.Obtained bucket clean) (remove .0)) less in
-      step-is 30 step (rw (remove .0) (took (search)))
+  takes (Moves.deposit-exc-lock-to-done bucket clean taken step remove same update deposit less only) room =
+      let counts = own-less bucket (exc-valid (ExcState.Obtained bucket clean taken) (remove .0)) less in
+      step-is 29 step (rw (remove .0, may-put clean taken (q .value) same) (took (search)))
+  takes (Moves.deposit-exc-lock-to-unmapped bucket clean taken step remove same update deposit less only) room =
+      let counts = own-less bucket (exc-valid (ExcState.Obtained bucket clean taken) (remove .0)) less in
+      step-is 30 step (rw (remove .0, may-put clean taken (q .value) same) (took (search)))

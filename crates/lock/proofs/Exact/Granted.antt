@@ -47,8 +47,8 @@ granted-at (Shapes.writebackAwait m v) cs ok = search (absurd, inr)
 granted-at (Shapes.await m v) cs ok = search (absurd, inl)
 granted-at (Shapes.pending m n true v) cs ok = search absurd
 granted-at (Shapes.pending m n false v) cs ok = search absurd
-granted-at (Shapes.editing m true) cs ok = search absurd
-granted-at (Shapes.editing m false) cs ok = search absurd
+granted-at (Shapes.editing m true v) cs ok = search absurd
+granted-at (Shapes.editing m false v) cs ok = search absurd
 
 pub granted : (h : Head) → T (headSound h) → Granted h
 granted = by-shape Granted granted-at

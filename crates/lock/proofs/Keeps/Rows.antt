@@ -292,7 +292,7 @@ module _ (l : List Reader) (q : Request) (inside : q .bucket .0 < buckets) (foun
         (λ _ p.
         visits m n clean v cs s ok (ltb→lt (n .0) buckets (p .1 .0)) (eqb→eq (numberAt cs (n .0)) (refAt m (n .0)) (p .1 .1 .0)))
         & (λ _ p.
-        kept-quiet s (shaped (editing m clean) cs (halves (leb (n .0) buckets) (validBucket m) ok .1))
+        kept-quiet s (shaped (editing m clean v) cs (halves (leb (n .0) buckets) (validBucket m) ok .1))
         (λ b. closed-passing (headAt (pending m n clean v) cs) b (p .1 .0)) (counts-of s))
         & (λ _ _.
         kept s (shaped (claimed m v) cs (halves (leb (n .0) buckets) (validBucket m) ok .1)) (reopens m n clean v cs)
@@ -301,11 +301,11 @@ module _ (l : List Reader) (q : Request) (inside : q .bucket .0 < buckets) (foun
     others = elim clean [ true ↦ tt | false ↦ tt ];
   }
   -- 18 to editing with a bucket, 29 to available, 30 to unmapped
-  table (editing MaybeBucket.None clean) cs s ok = record {
+  table (editing MaybeBucket.None clean v) cs s ok = record {
     numbers = 18 ∷ 29 ∷ 30 ∷ readerSteps;
     cells =
         (λ _ p.
-        kept s (shaped (editing (MaybeBucket.At (q .bucket)) clean) (raise (q .bucket .0) cs) near) (λ r t. t)
+        kept s (shaped (editing (MaybeBucket.At (q .bucket)) clean v) (raise (q .bucket .0) cs) near) (λ r t. t)
         (more (counts-of s) (p .1 .1 .0) (λ b. omega arith)))
         & (λ _ _. kept-quiet s (shaped (available (q .value)) cs tt) (λ b k t. t) (counts-of s))
         & (λ _ _. kept-quiet s (shaped (unmapped (q .value)) cs tt) (λ b k t. t) (counts-of s))
@@ -313,12 +313,12 @@ module _ (l : List Reader) (q : Request) (inside : q .bucket .0 < buckets) (foun
     others = elim clean [ true ↦ tt | false ↦ tt ];
   }
   -- 9 to available, 10 to claimed, 29 to available, 30 to unmapped
-  table (editing (MaybeBucket.At b) clean) cs s ok = record {
+  table (editing (MaybeBucket.At b) clean v) cs s ok = record {
     numbers = 9 ∷ 10 ∷ 29 ∷ 30 ∷ readerSteps;
     cells =
         (λ _ p.
         gives (q .value) b s (shaped (available (q .value)) cs tt)
-        (quiet (headAt (editing (MaybeBucket.At b) clean) cs) (headAt (available (q .value)) cs) (λ b k t. t))
+        (quiet (headAt (editing (MaybeBucket.At b) clean v) cs) (headAt (available (q .value)) cs) (λ b k t. t))
         ok (own-value (q .value)) (p .1 .1 .0) refl (λ x. omega arith))
         & (λ _ _. kept-quiet s (shaped (claimed (MaybeBucket.At b) (q .value)) cs ok) (λ b k t. t) (counts-of s))
         & (λ _ _.

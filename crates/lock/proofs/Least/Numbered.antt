@@ -1,5 +1,5 @@
 -- The number that a decided step answers is the first of its premises' numbers that applies (`decided-number`). The numbers 5 to
--- 11 in the words of RULES 4.1 come to the same (`premised-tabled`). Assumes nothing.
+-- 11 and 17 in the words of RULES 4.1 come to the same (`premised-tabled`). Assumes nothing.
 use Prim.Native.Nat.{ℕ}
 use mathlib.Core.Path.{_≡_, refl, _∙_}
 use mathlib.Core.Bool.{Bool, true, false, not, _&&_}
@@ -32,10 +32,10 @@ module _ (h : Head) (q : Request) (found : Found) (full : Bool) where
       go Verdict.Passed = accepts-all
       go (Verdict.Failed why) = refl
 
--- ---- the numbers 5 to 11
+-- ---- the numbers 5 to 11 and 17
 -- as premises of a step: a premise that it doesn't have holds
-abbrev premised : Bool → Bool → Bool → Bool → Bool → Bool → Bool → ℕ
-premised flag holder bucket visited count under full =
+abbrev premised : Bool → Bool → Bool → Bool → Bool → Bool → Bool → Bool → ℕ
+premised flag holder bucket visited count under full same =
     firstApplying
     (failing
     ((Refusal.WrongFlag, flag)
@@ -45,11 +45,12 @@ premised flag holder bucket visited count under full =
     ∷ (Refusal.OtherCount, count)
     ∷ (Refusal.AtCeiling, under)
     ∷ (Refusal.ListFull, not full)
+    ∷ (Refusal.OtherValue, same)
     ∷ []))
 
--- as the table has them: 7, 8 and 9 speak of the holder, so they apply only where it is there
-abbrev pub tabled : Bool → Bool → Bool → Bool → Bool → Bool → Bool → ℕ
-tabled flag holder bucket visited count ceiling room =
+-- as the table has them: 7, 8, 9 and 17 speak of the holder, so they apply only where it is there
+abbrev pub tabled : Bool → Bool → Bool → Bool → Bool → Bool → Bool → Bool → ℕ
+tabled flag holder bucket visited count ceiling room other =
     firstApplying
     ((5, not flag)
     ∷ (6, not holder)
@@ -58,21 +59,23 @@ tabled flag holder bucket visited count ceiling room =
     ∷ (9, holder && count)
     ∷ (10, ceiling)
     ∷ (11, room)
+    ∷ (17, holder && other)
     ∷ [])
 
-pub premised-tabled : (flag holder bucket visited count under full : Bool)
-    → premised flag holder bucket visited count under full
-    ≡ tabled flag holder (not bucket) (not visited) (not count) (not under) full
-premised-tabled false h b v c u r = refl
-premised-tabled true false b v c u r = refl
-premised-tabled true true false v c u r = refl
-premised-tabled true true true false c u r = refl
-premised-tabled true true true true false u r = refl
-premised-tabled true true true true true false r = refl
-premised-tabled true true true true true true true = refl
-premised-tabled true true true true true true false = refl
+pub premised-tabled : (flag holder bucket visited count under full same : Bool)
+    → premised flag holder bucket visited count under full same
+    ≡ tabled flag holder (not bucket) (not visited) (not count) (not under) full (not same)
+premised-tabled false h b v c u r o = refl
+premised-tabled true false b v c u r o = refl
+premised-tabled true true false v c u r o = refl
+premised-tabled true true true false c u r o = refl
+premised-tabled true true true true false u r o = refl
+premised-tabled true true true true true false r o = refl
+premised-tabled true true true true true true true o = refl
+premised-tabled true true true true true true false true = refl
+premised-tabled true true true true true true false false = refl
 
 -- where a step asks for a flag and a holder alone
 pub flag-holder : (flag holder : Bool)
-    → premised flag holder true true true true false ≡ tabled flag holder false false false false false
-flag-holder flag holder = premised-tabled flag holder true true true true false
+    → premised flag holder true true true true false true ≡ tabled flag holder false false false false false false
+flag-holder flag holder = premised-tabled flag holder true true true true false true

@@ -1,10 +1,10 @@
--- Each step's premises are the numbers 5 to 11 of the table in specs/Applies.antt, a line a step; `tabled-at` picks the line of
+-- Each step's premises are the numbers 5 to 11 and 17 of the table in specs/Applies.antt, a line a step; `tabled-at` picks the line of
 -- the step that a request names. A reader is found just if the table finds it listed (`found-listed`), a flag's test
 -- is the table's list of flags (`available-lets` and the like), and soundness keeps counts, visited number and length within
 -- their limits (`bounds`). Assumes nothing.
 use Prim.Native.Nat.{ℕ, _≤_}
 use mathlib.Core.Path.{_≡_, refl, sym, ap, _∙_}
-use mathlib.Core.Bool.{Bool, true, false, not, _&&_, Bool·not-not}
+use mathlib.Core.Bool.{Bool, true, false, not, _&&_, _||_, Bool·not-not}
 use mathlib.Core.List.{List}
 use native.Mathlib.Omega.{arith}
 use lib.Dec.{T, eqb, ltb, leb}
@@ -21,7 +21,7 @@ use Rattle.readers.specs.Listed.{live, findIn}
 use Rattle.readers.proofs.First.{absent, nowhere, find-none}
 use Rattle.page_record.specs.declared.Page.{Page}
 use Rattle.page_record.specs.Holders.{hasBucket, isClaim, isAwait, isPending, isEditing, excBucket, excVisited}
-use Rattle.page_record.specs.Holders.{isWaiting, isCounted, isLoading, loadingBucket, noWriteback}
+use Rattle.page_record.specs.Holders.{excClean, excValue, isWaiting, isCounted, isLoading, loadingBucket, noWriteback}
 use Rattle.page_record.specs.Pages.{headOf, numberAt}
 use Rattle.page_record.specs.References.{refAt}
 use Rattle.soundness.specs.Soundness.{soundOf}
@@ -31,11 +31,12 @@ use Rattle.requests.specs.declared.Request.{Request}
 use Rattle.requests.specs.Requests.{isStep, pastLast}
 use Rattle.requests.proofs.Verdicts.{failing}
 use Rattle.requests.proofs.Formed.{step-most}
-use Rattle.heads.specs.Decisions.{Step, isFound, reader}
+use Rattle.heads.specs.Decisions.{Step, isFound, reader, mayPutIn}
 use Rattle.steps.specs.Decide.{stepAt, soughtOf}
 use Rattle.lock.specs.Words.{raising, listing}
 use Rattle.lock.specs.Step.{lookFor}
-use Rattle.lock.specs.Applies.{flagLets, lists, holderThere, bucketWrong, visitedWrong, countOther, applyingStep}
+use Rattle.lock.specs.Applies.{flagLets, lists, holderThere, bucketWrong, visitedWrong, countOther, valueOther}
+use Rattle.lock.specs.Applies.{applyingStep}
 use Rattle.lock.proofs.Least.Numbered.{tabled, premised-tabled, flag-holder}
 
 -- ---- what soundness adds: counts, visited number and length are within their limits
@@ -98,7 +99,12 @@ open-lets = by-flag (λ f. openToReaders f ≡ flagLets 23 f) refl refl refl ref
 loading-lets : (f : Flag) → notLoading f ≡ flagLets 24 f
 loading-lets = by-flag (λ f. notLoading f ≡ flagLets 24 f) refl refl refl refl refl refl refl refl refl refl refl
 
--- ---- each step's premises are the numbers 5 to 11 of the table
+-- ---- a clean holder's value is another just if it may not be put in
+clean-other : (clean same : Bool) → (clean && not same) ≡ not (not clean || same)
+clean-other true same = refl
+clean-other false same = refl
+
+-- ---- each step's premises are the numbers 5 to 11 and 17 of the table
 module _ (p : Page) (within : Bounds p) (b : Bucket) (clean value : ℕ) where
   abbrev ask : ℕ → Request
   ask n = record { step = n; bucket = b; clean = clean; value = value }
@@ -120,7 +126,7 @@ module _ (p : Page) (within : Bounds p) (b : Bucket) (clean value : ℕ) where
   Tabled n =
       firstApplying (failing (stepNo n .premises))
       ≡ tabled (flagLets n (p .flag)) (holderThere p (ask n)) (bucketWrong p n) (visitedWrong p n) (countOther p n)
-      (among raising n && atCeiling) (among listing n && isFull)
+      (among raising n && atCeiling) (among listing n && isFull) (valueOther p n value)
 
   -- in the step's words: the count is below the ceiling, the list is full, the holder has a bucket, what it has visited
   abbrev under : Bool
@@ -138,12 +144,18 @@ module _ (p : Page) (within : Bounds p) (b : Bucket) (clean value : ℕ) where
   abbrev visited : ℕ
   visited = excVisited (p .«exc_state») .0
 
+  abbrev kept : Bool
+  kept = mayPutIn (excClean (p .«exc_state»)) (excValue (p .«exc_state»)) value
+
   -- the two agree
   at-ceiling : atCeiling ≡ not under
   at-ceiling = limit-not-below (numberAt (p .«ref_counts») (b .0)) ceiling (within .few (b .0))
 
   is-full : isFull ≡ full
   is-full = limit-reached (p .readers .len) capacity (within .room)
+
+  is-other : (excClean (p .«exc_state») && not (eqb value (excValue (p .«exc_state»)))) ≡ not kept
+  is-other = clean-other (excClean (p .«exc_state»)) (eqb value (excValue (p .«exc_state»)))
 
   finds : (phase : Phase) → isFound (findIn (live (p .readers)) (reader phase b)) ≡ reads phase
   finds phase = found-listed (live (p .readers)) (reader phase b)
@@ -173,16 +185,16 @@ module _ (p : Page) (within : Bounds p) (b : Bucket) (clean value : ℕ) where
   tabled7 =
       let expected = eqb (numberAt (p .«ref_counts») visited) (refAt (excBucket (p .«exc_state»)) visited) in
       rw (limit-not-below visited buckets (within .closed))
-      (premised-tabled true (isPending (p .«exc_state»)) true (ltb visited buckets) expected true false)
+      (premised-tabled true (isPending (p .«exc_state»)) true (ltb visited buckets) expected true false true)
 
   tabled8 : Tabled 8
-  tabled8 = premised-tabled true (isPending (p .«exc_state»)) true (eqb visited buckets) true true false
+  tabled8 = premised-tabled true (isPending (p .«exc_state»)) true (eqb visited buckets) true true false true
 
   tabled9 : Tabled 9
-  tabled9 = rw is-full (premised-tabled true (isEditing (p .«exc_state»)) exc-bucket true true true full)
+  tabled9 = rw (is-full, is-other) (premised-tabled true (isEditing (p .«exc_state»)) exc-bucket true true true full kept)
 
   tabled10 : Tabled 10
-  tabled10 = premised-tabled true (isEditing (p .«exc_state»)) exc-bucket true true true false
+  tabled10 = rw is-other (premised-tabled true (isEditing (p .«exc_state»)) exc-bucket true true true false kept)
 
   tabled11 : Tabled 11
   tabled11 = rw (unmapped-lets (p .flag)) (flag-holder (flagLets 11 (p .flag)) true)
@@ -191,7 +203,7 @@ module _ (p : Page) (within : Bounds p) (b : Bucket) (clean value : ℕ) where
   tabled12 = rw (unmapped-lets (p .flag)) (flag-holder (flagLets 12 (p .flag)) true)
 
   tabled13 : Tabled 13
-  tabled13 = rw at-ceiling (premised-tabled true (isWaiting (p .«loading_state»)) true true true under false)
+  tabled13 = rw at-ceiling (premised-tabled true (isWaiting (p .«loading_state»)) true true true under false true)
 
   tabled14 : Tabled 14
   tabled14 = flag-holder true (isCounted (p .«loading_state»))
@@ -200,18 +212,18 @@ module _ (p : Page) (within : Bounds p) (b : Bucket) (clean value : ℕ) where
   tabled15 = flag-holder true (isWaiting (p .«loading_state»))
 
   tabled16 : Tabled 16
-  tabled16 = rw is-full (premised-tabled true (isLoading (p .«loading_state»)) load-bucket true true true full)
+  tabled16 = rw is-full (premised-tabled true (isLoading (p .«loading_state»)) load-bucket true true true full true)
 
   tabled17 : Tabled 17
   tabled17 = flag-holder true (isLoading (p .«loading_state»))
 
   tabled18 : Tabled 18
   tabled18 =
-      let line = premised-tabled true (isEditing (p .«exc_state»)) (not exc-bucket) true true under false in
+      let line = premised-tabled true (isEditing (p .«exc_state»)) (not exc-bucket) true true under false true in
       rw at-ceiling (simp Bool·not-not (simp Bool·not-not at line))
 
   tabled19 : Tabled 19
-  tabled19 = rw (at-ceiling, is-full) (premised-tabled true true true true true under full)
+  tabled19 = rw (at-ceiling, is-full) (premised-tabled true true true true true under full true)
 
   tabled20 : Tabled 20
   unfolding lookFor soughtOf
@@ -237,7 +249,7 @@ module _ (p : Page) (within : Bounds p) (b : Bucket) (clean value : ℕ) where
   tabled25 = flag-holder true (isClaim (p .«exc_state»))
 
   tabled26 : Tabled 26
-  tabled26 = rw is-full (premised-tabled true (isClaim (p .«exc_state»)) exc-bucket true true true full)
+  tabled26 = rw is-full (premised-tabled true (isClaim (p .«exc_state»)) exc-bucket true true true full true)
 
   tabled27 : Tabled 27
   tabled27 = flag-holder true (isAwait (p .«exc_state»))
@@ -246,10 +258,10 @@ module _ (p : Page) (within : Bounds p) (b : Bucket) (clean value : ℕ) where
   tabled28 = flag-holder true (isPending (p .«exc_state»))
 
   tabled29 : Tabled 29
-  tabled29 = flag-holder true (isEditing (p .«exc_state»))
+  tabled29 = rw is-other (premised-tabled true (isEditing (p .«exc_state»)) true true true true false kept)
 
   tabled30 : Tabled 30
-  tabled30 = flag-holder true (isEditing (p .«exc_state»))
+  tabled30 = rw is-other (premised-tabled true (isEditing (p .«exc_state»)) true true true true false kept)
 
   -- no step has number 0
   entries : Below pastLast (λ n. T (isStep n) → Tabled n)

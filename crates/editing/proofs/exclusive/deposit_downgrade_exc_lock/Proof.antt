@@ -1,6 +1,7 @@
 -- `editing::exclusive::deposit_downgrade_exc_lock` meets its contract: each return, by the tests, the kinds and the calls on the way to it. Assumes
 -- nothing.
 use borrow.Author.Needs.{needs}
+use Rattle.laws.proofs.Tests.{fails-by, holds-by}
 use Rattle.heads.proofs.Tags.{not-editing}
 use Rattle.editing.proofs.exclusive.deposit_downgrade_exc_lock.Statement.{statement}
 use Rattle.editing.proofs.exclusive.deposit_downgrade_exc_lock.Tie as tie
@@ -30,10 +31,21 @@ deposit-downgrade-exc-lock-spec =
       c .before .before .before .before .before .before .exc .given .1,
     ))
     (λ c κs. tt)
+    (λ c κs. tt)
     (λ c.
     simp (
-      c .deposit-exc .ensures,
-      c .before .if1 .left,
-      c .before .before .before .bucket .given .1,
-      c .before .before .before .before .before .before .exc .given .1,
-    )))
+      c .refuse4 .ensures,
+      fails-by (c .before .before .may-put-in .ensures) (c .before .if2 .taken),
+      c .before .before .before .if1 .left,
+      c .before .before .before .before .before .bucket .given .1,
+      c .before .before .before .before .before .before .before .before .exc .given .1,
+    ))
+    (λ c κs. tt)
+    (λ c.
+    rw (
+      c .before .before .before .before .before .before .before .before .exc .given .1,
+      c .before .before .before .before .before .bucket .given .1,
+      c .before .before .before .if1 .left,
+      holds-by (c .before .before .may-put-in .ensures) (c .before .if2 .left),
+    )
+    (c .deposit-exc .ensures)))

@@ -1,6 +1,7 @@
 -- `editing::exclusive::deposit_downgrade_exc_lock_to_claim` meets its contract: each return, by the tests, the kinds and the calls on the way to it. Assumes
 -- nothing.
 use borrow.Author.Needs.{needs}
+use Rattle.laws.proofs.Tests.{fails-by, holds-by}
 use Rattle.heads.proofs.Tags.{not-editing}
 use Rattle.editing.proofs.exclusive.deposit_downgrade_exc_lock_to_claim.Statement.{statement}
 use Rattle.editing.proofs.exclusive.deposit_downgrade_exc_lock_to_claim.Tie as tie
@@ -22,9 +23,19 @@ deposit-downgrade-exc-lock-to-claim-spec =
       c .before .before .before .before .exc .given .1,
     ))
     (λ c κs. tt)
+    (λ c κs. tt)
+    (λ c.
+    simp (
+      c .refuse3 .ensures,
+      fails-by (c .before .before .may-put-in .ensures) (c .before .if1 .taken),
+      c .before .before .before .before .bucket .given .1,
+      c .before .before .before .before .before .before .before .exc .given .1,
+    ))
+    (λ c κs. tt)
     (λ c.
     simp (
       c .deposit-exc .ensures,
-      c .before .before .bucket .given .1,
-      c .before .before .before .before .before .exc .given .1,
+      holds-by (c .before .before .may-put-in .ensures) (c .before .if1 .left),
+      c .before .before .before .before .bucket .given .1,
+      c .before .before .before .before .before .before .before .exc .given .1,
     )))

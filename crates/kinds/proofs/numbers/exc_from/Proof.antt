@@ -18,4 +18,5 @@ exc-from-spec =
     (λ c. simp (c .match .keys3))
     (λ c. simp (c .match .keys4))
     (λ c. simp (c .match .keys5))
-    (λ c. sym (List·getD-eq-default (excs _ _ _ _) ExcState.None (past 5 _ (c .match .rest)))))
+    (λ c. simp (c .match .keys6))
+    (λ c. sym (List·getD-eq-default (excs _ _ _ _) ExcState.None (past 6 _ (c .match .rest)))))
