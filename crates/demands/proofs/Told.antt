@@ -47,6 +47,10 @@ use Rattle.demands.specs.History.{Event, Start, startOf, event, after, h
 use Rattle.demands.specs.History.{lastTaken, lastWithdrew, lastCounted, countedSince, editorNamed, HandedOut}
 
 -- ---- what is told
+-- of an exclusive holder that has the page out: what it keeps
+abbrev Kept : Start → List Event → ExcState → Type 0
+Kept start past e = (excValue e ≡ lastPut start past) × (excValue e ≡ lastTaken start past)
+
 -- of the counts, of storage and of the loader: where it has a bucket, the latest 13 named it, and since the latest 11 or 12; where it
 -- has none, there was no 13 since. And of the exclusive holder, where there is one: its bucket, or that it has none; and what it keeps,
 -- where it has the page out
@@ -56,7 +60,7 @@ pub record Told (start : Start) (cs : List Count) (s : Storage) (e : ExcState) (
   pub counted : T (hasBucket (loadingBucket l)) → lastCounted start past ≡ loadingBucket l
   pub since : T (not (noLoad l)) → countedSince start past ≡ hasBucket (loadingBucket l)
   pub edited : T (not (noExc e)) → editorNamed start past ≡ excBucket e
-  pub kept : T (isEditing e) → (excValue e ≡ lastPut start past) × (excValue e ≡ lastTaken start past)
+  pub kept : T (isEditing e) → Kept start past e
   pub handed : HandedOut start past
 
 abbrev pub ToldOf : Start → Head → List Event → Type 0
@@ -137,15 +141,11 @@ module _ (start : Start) (h : Head) (l : List Reader) (b : Bucket) (clean value 
   none-out : {A : Type 0} → (⊥ → A) × HandedOut start past
   none-out = (λ t. absurd t, told .handed)
 
-  -- what is told of an exclusive holder that has the page out
-  abbrev Kept : ExcState → Type 0
-  Kept e = (excValue e ≡ lastPut start past) × (excValue e ≡ lastTaken start past)
-
   -- a step that leaves storage and the loader: only its counts and the exclusive holder are told anew
   recounts : (n : ℕ) {cs : List Count} {e : ExcState} → T (calm n)
       → ((x : ℕ) → numberAt cs x + departures start x (took n) ≡ start .counts x + arrivals x (took n))
       → (T (not (noExc e)) → editorNamed start (took n) ≡ excBucket e)
-      → (T (isEditing e) → Kept e)
+      → (T (isEditing e) → Kept start past e)
       → Told start cs (h .storage) e (h .«loading_state») (took n)
   recounts n t balance edited kept =
       let u = simp and-iff at t in
@@ -166,7 +166,7 @@ module _ (start : Start) (h : Head) (l : List Reader) (b : Bucket) (clean value 
 
   -- .. and one that leaves the counts too
   stays : (n : ℕ) {e : ExcState} → T (even n) → T (calm n) → (T (not (noExc e)) → editorNamed start (took n) ≡ excBucket e)
-      → (T (isEditing e) → Kept e)
+      → (T (isEditing e) → Kept start past e)
       → Told start (h .«ref_counts») (h .storage) e (h .«loading_state») (took n)
   stays n t =
       let u = simp and-iff at t in

@@ -112,14 +112,17 @@ awaits = plain 5 ∷ []
 abbrev pub closes : List Request
 closes = awaits ++ clean 0 ∷ []
 
-abbrev pub takes : List Request
-takes = plain 7 ∷ plain 7 ∷ plain 7 ∷ plain 7 ∷ plain 8 ∷ []
+abbrev pub looks : List Request
+looks = plain 7 ∷ plain 7 ∷ plain 7 ∷ plain 7 ∷ []
+
+abbrev pub looksClean : List Request
+looksClean = awaits ++ clean 1 ∷ looks
 
 abbrev pub edits : List Request
-edits = closes ++ takes
+edits = closes ++ looks ++ plain 8 ∷ []
 
 abbrev pub editsClean : List Request
-editsClean = awaits ++ clean 1 ∷ takes
+editsClean = looksClean ++ plain 8 ∷ []
 
 -- every kind of holder, with a bucket and without where it may have none
 abbrev pub holders : List Exhibit
@@ -404,7 +407,7 @@ everyPutBackShown = every answered putBacks && every (λ (t : Trial). soundOf (t
 -- a clean editor that has looked at every bucket, and what is asked once it has the page out: other values, a bucket, a reader, a loader's
 -- deposit; then it puts in what it took
 abbrev pub looked : Page
-looked = led (claimsBare ++ awaits ++ clean 1 ∷ plain 7 ∷ plain 7 ∷ plain 7 ∷ plain 7 ∷ [])
+looked = led (claimsBare ++ looksClean)
 
 abbrev pub meanwhile : List Request
 meanwhile = put 29 6 ∷ at 18 1 ∷ put 9 6 ∷ at 19 3 ∷ put 17 5 ∷ []
