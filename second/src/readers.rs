@@ -5,7 +5,8 @@
 
 use crate::kinds::{SharedState, CAPACITY};
 
-/// The readers, the newest last.
+/// The readers. One that comes stands last, and one that goes leaves its place
+/// to the last.
 #[derive(Clone, Debug, PartialEq, Eq)]
 pub struct Readers {
     /// The length as it is kept, above the capacity too.
@@ -48,11 +49,11 @@ impl Readers {
         self.length += 1;
     }
 
-    /// Takes the reader at this place out; later entries close the gap, and
-    /// the place that comes free is blank.
+    /// Takes the listed reader at this place out. The last reader moves into the
+    /// gap, and every other keeps its place; the place that comes free is blank.
     pub fn remove(&mut self, place: usize) {
         let last = self.end() - 1;
-        self.entries.copy_within(place + 1..=last, place);
+        self.entries[place] = self.entries[last];
         self.entries[last] = SharedState::BLANK;
         self.length -= 1;
     }

@@ -16,7 +16,7 @@ pub struct Page {
     pub flag: Flag,
     /// The four counts.
     pub ref_counts: [Count; RC_WIDTH as usize],
-    /// The readers, the newest last.
+    /// The readers, as they are listed.
     pub shared_state: Readers,
     /// The exclusive holder, if there is one.
     pub exc_state: Option<ExcState>,

@@ -1,12 +1,15 @@
-//! Cases A to O, line by line.
+//! Cases A to O, line by line, and the exact lists.
 
 mod common;
 
 use common::history::History;
+use common::lists::{rows, Row};
+use second::image::{read_image, write_image};
 use second::kinds::{Answer, BucketId, ExcState, Flag, Refusal, Request, SharedState, StoredType};
 use second::record::{fresh, sound, Page};
 use second::run::run;
 use second::steps::{step, step_in_place};
+use second::wire::write_request;
 
 /// One request, and what is seen after it.
 struct Line {
@@ -501,4 +504,42 @@ fn o() {
     assert_eq!(play(case_b(), &lines), fresh(6));
     lines.retain(|line| line.answer.is_ok());
     assert_eq!(departures(&case_b(), &lines), [0, 1, 1, 0]);
+}
+
+/// The page after these requests, all of them accepted, from a fresh record of 0:
+/// by value, lent, and in one run, which is the same.
+fn accepted(requests: &[Request]) -> Page {
+    let mut page = fresh(0);
+    let mut lent = fresh(0);
+    let mut bytes = vec![0; 16 * requests.len()];
+    for (request, line) in requests.iter().zip(bytes.chunks_mut(16)) {
+        let outcome = step(page, request);
+        page = outcome.page;
+        assert!(outcome.answer.is_ok(), "{request:?}");
+        assert!(sound(&page), "{request:?}");
+        assert_eq!(step_in_place(&mut lent, request), outcome.answer);
+        assert_eq!(lent, page);
+        assert_eq!(write_request(request, line), Ok(()));
+    }
+    let mut run_page = fresh(0);
+    let mut answers = vec![0; bytes.len()];
+    assert_eq!(run(&mut run_page, &bytes, &mut answers), Ok(()));
+    assert_eq!(run_page, page);
+    page
+}
+
+#[test]
+fn the_exact_lists() {
+    assert_eq!(rows().len(), 11);
+    for Row { requests, list } in rows() {
+        let page = accepted(&requests);
+        assert_eq!(page.shared_state.listed(), list);
+        let past = page.shared_state.past();
+        assert!(past.iter().all(|&entry| entry == SharedState::BLANK));
+        let mut image = [170; 1_088];
+        assert_eq!(write_image(&page, &mut image), Ok(()));
+        let restored = read_image(&image);
+        assert_eq!(restored.answer, Ok(None));
+        assert_eq!(restored.page.shared_state.listed(), list);
+    }
 }

@@ -1,9 +1,13 @@
 //! The drill, by streams and answers that are written out by hand.
 
+mod common;
+
 use std::io::{self, Read, Write};
 use std::process::{Command, Stdio};
 
+use common::lists::{rows, Row};
 use second::drill::program;
+use second::kinds::SharedState;
 
 /// An operation of this number, with this number `a` and this payload.
 fn op(number: u8, a: u64, payload: &[u8]) -> Vec<u8> {
@@ -1276,6 +1280,85 @@ fn the_fields_of_the_steps_that_give_back() {
                 FRESH.to_vec(),
             ];
             assert_eq!(answers(&stream), expected.concat());
+        }
+    }
+}
+
+// Readers that leave.
+
+/// The bytes of a listed reader, in a look and in an image.
+fn entry(reader: SharedState) -> Vec<u8> {
+    let (phase, bucket, value) = match reader {
+        SharedState::Pending { bucket } => (1, bucket, 0),
+        SharedState::Pending2 { bucket } => (2, bucket, 0),
+        SharedState::Obtained { bucket, value } => (3, bucket, value),
+    };
+    ask(phase, bucket.0, 0, value)
+}
+
+/// The exact lists, as a look shows them and as an image has them: by value and
+/// lent by turns, and in a run.
+#[test]
+fn exact_lists() {
+    for Row { requests, list } in rows() {
+        let asked: Vec<Vec<u8>> = requests
+            .iter()
+            .map(|request| ask(request.step, request.bucket, 0, request.value))
+            .collect();
+        let by_turns = |first: u8| -> Vec<u8> {
+            let turns = [first, 5 - first].into_iter().cycle();
+            let single = asked.iter().zip(turns);
+            single.flat_map(|(request, n)| op(n, 0, request)).collect()
+        };
+        let entries: Vec<u8> = list.iter().flat_map(|&reader| entry(reader)).collect();
+        let rest = vec![0; 1_024 - entries.len()];
+        let lines = 16 * asked.len();
+        let run = op(4, lines as u64, &asked.concat());
+        let streams = [
+            (by_turns(2), lines),
+            (by_turns(3), lines),
+            (run, 16 + lines),
+        ];
+        for (stream, answered) in streams {
+            let written = answers(&[stream, look(), op(9, 1_088, &[])]);
+            let (answers, seen) = written.split_at(answered);
+            assert!(answers.chunks(16).all(|line| line[0] == 0));
+            let (look, image) = seen.split_at(32 + entries.len());
+            assert_eq!(look[..2], [0, 0]);
+            assert_eq!(look[18..20], [list.len() as u8, 0]);
+            assert_eq!(look[32..], entries, "{list:?}");
+            assert_eq!(image[..16], line(0));
+            assert_eq!(image[16 + 2..16 + 4], [list.len() as u8, 0]);
+            assert_eq!(image[16 + 64..], [&entries[..], &rest].concat());
+        }
+    }
+}
+
+/// The third of the busy page's readers takes the place of the first, and of the
+/// second; where it goes itself, nobody moves.
+#[test]
+fn one_leaves_a_busy_page() {
+    let value = 0x0807_0605_0403_0201;
+    let cases = [
+        (ask(22, 2, 0, value), vec![(2, 3), (1, 0)]),
+        (ask(20, 0, 0, 0), vec![(3, 2), (2, 3)]),
+        (ask(21, 3, 0, 0), vec![(3, 2), (1, 0)]),
+    ];
+    for (request, left) in cases {
+        let mut image = busy_image();
+        image[2] = 2;
+        image[16 + usize::from(request[1])] -= 1;
+        image[64..112].fill(0);
+        for (place, (phase, bucket)) in left.into_iter().enumerate() {
+            let start = 64 + 16 * place;
+            let value = if phase == 3 { value } else { 0 };
+            image[start..start + 16].copy_from_slice(&ask(phase, bucket, 0, value));
+        }
+        for (operation, payload) in [(7, busy()), (8, busy_image())] {
+            let written = asked_of(operation, &payload, request.clone());
+            assert_eq!(written[..16], line(0));
+            assert_eq!(written[48..80], image[64..96]);
+            assert_eq!(written[written.len() - 1_088..], image);
         }
     }
 }

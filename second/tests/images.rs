@@ -116,7 +116,7 @@ fn a_reader_of_each_phase() {
 }
 
 #[test]
-fn readers_stand_in_order_with_zeros_behind() {
+fn readers_stand_as_listed_with_zeros_behind() {
     let page = loaded(&[
         (19, 3, 0, 0),
         (19, 0, 0, 0),
@@ -128,8 +128,8 @@ fn readers_stand_in_order_with_zeros_behind() {
         (20, 0, 0, 0),
     ]);
     let head: [Part; 3] = [(0, &[3, 1, 3]), (16, &[0, 1, 0, 2]), (32, &BYTES)];
-    let first: [Part; 2] = [(64, &[2, 3]), (80, &[1, 3])];
-    let last: [Part; 2] = [(96, &[3, 1]), (104, &BYTES)];
+    let first: [Part; 3] = [(64, &[2, 3]), (80, &[3, 1]), (88, &BYTES)];
+    let last: [Part; 1] = [(96, &[1, 3])];
     has_image(&page, &[&head[..], &first, &last].concat());
 }
 

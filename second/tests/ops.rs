@@ -5,13 +5,15 @@ mod common;
 use std::collections::BTreeSet;
 
 use common::history::History;
-use common::{operations, walks, Asked};
+use common::{leaver, operations, walks, Asked};
 use second::drill::{program, Drill, Operation};
 use second::kinds::{
-    answer_number, ExcState, Flag, LoadingState, Refusal, StoredType, CAPACITY, CEILING,
+    answer_number, ExcState, Flag, LoadingState, Refusal, SharedState, StoredType, CAPACITY,
+    CEILING,
 };
 use second::ops::ends::{end_of, End, ENDS};
 use second::ops::pages::{main_pages, more_pages, without_meaning};
+use second::ops::removals::REMOVALS;
 use second::ops::{stream, Plan, REQUESTS};
 use second::raw::{read_raw, write_raw};
 use second::record::{
@@ -19,6 +21,7 @@ use second::record::{
     lowest_broken_rule, ref_count_invariant, shared_storage_invariant, sound,
     storage_some_invariant, writeback_state_invariants, Page,
 };
+use second::run::{answer_line, run};
 use second::steps::step;
 use second::wire::read_request;
 
@@ -48,8 +51,8 @@ fn a_stream_is_made_the_same_again() {
 #[test]
 fn the_first_stream_is_small() {
     let stream = short(1);
-    assert!((80_000..=203_000).contains(&stream.len()));
-    assert!(answers(&stream).len() <= 314_000);
+    assert!((80_000..=208_000).contains(&stream.len()));
+    assert!(answers(&stream).len() <= 327_000);
 }
 
 #[test]
@@ -671,6 +674,161 @@ fn walks_have_clean_editors_that_ask_with_another_value() {
         let (few, many) = (other_values(seed, 2_000), other_values(seed, 17_000));
         assert!(few >= 200, "seed {seed}: {few}");
         assert!(many >= few + 50, "seed {seed}: {few}, {many}");
+    }
+}
+
+/// Where a reader stood that left.
+#[derive(Clone, Copy, Debug, PartialEq, Eq, PartialOrd, Ord)]
+enum Gap {
+    /// At the beginning or in the middle, with two or more behind it, whose order
+    /// shows whether they moved up.
+    Beginning,
+    Middle,
+    /// With one behind it, with none, and alone.
+    OneBehind,
+    End,
+    Only,
+    /// Before an equal one, where the list shows which of the two it was.
+    FirstEqual,
+}
+
+const GAPS: [Gap; 6] = [
+    Gap::Beginning,
+    Gap::Middle,
+    Gap::OneBehind,
+    Gap::End,
+    Gap::Only,
+    Gap::FirstEqual,
+];
+
+/// All that holds of the place of a reader that leaves.
+fn gaps(listed: &[SharedState], place: usize) -> Vec<Gap> {
+    let without = |place: usize| {
+        let mut left = listed.to_vec();
+        left.swap_remove(place);
+        left
+    };
+    let mut moved_up = listed.to_vec();
+    moved_up.remove(place);
+    let shows = moved_up != without(place);
+    let mut gaps = Vec::new();
+    gaps.extend(match (place, listed.len() - place - 1) {
+        (0, 0) => Some(Gap::Only),
+        (_, 0) => Some(Gap::End),
+        (_, 1) => Some(Gap::OneBehind),
+        (0, _) => Some(Gap::Beginning).filter(|_| shows),
+        _ => Some(Gap::Middle).filter(|_| shows),
+    });
+    let places = place + 1..listed.len();
+    let mut equal = places.filter(|&other| listed[other] == listed[place]);
+    if equal.clone().count() > 0 && equal.all(|other| without(other) != without(place)) {
+        gaps.push(Gap::FirstEqual);
+    }
+    gaps
+}
+
+/// What a stream has of readers that leave, where a look comes next: the
+/// operation, the step, and the gap. In a run the last request counts.
+#[derive(Default)]
+struct Removals {
+    looked: BTreeSet<(u8, u8, Gap)>,
+    /// The same where the look is followed by an image.
+    imaged: BTreeSet<(u8, u8, Gap)>,
+    /// The step and the gap where the list was full.
+    full: BTreeSet<(u8, Gap)>,
+}
+
+impl Removals {
+    fn of(stream: &[u8]) -> Removals {
+        let mut seen = Removals::default();
+        let mut drill = Drill::start();
+        let operations = operations(stream).0;
+        for (place, operation) in operations.iter().enumerate() {
+            let before = drill.page().clone();
+            drill.perform(operation);
+            let next = &operations[place + 1..];
+            if next.first().is_some_and(|next| next.number == 6) {
+                let image = next.get(1).is_some_and(|next| next.number == 9);
+                seen.add(before, operation, image);
+            }
+        }
+        seen
+    }
+
+    fn add(&mut self, mut page: Page, operation: &Operation, image: bool) {
+        let Some((first, last)) = last_request(operation) else {
+            return;
+        };
+        if run(&mut page, first, &mut vec![0; first.len()]).is_err() {
+            return;
+        }
+        let Some(reader) = read_request(last).ok().and_then(|last| leaver(&last)) else {
+            return;
+        };
+        if answer_line(&mut page.clone(), last).is_err() {
+            return;
+        }
+        let listed = page.shared_state.listed();
+        let place = listed.iter().position(|&listed| listed == reader).unwrap();
+        for gap in gaps(listed, place) {
+            let seen = (operation.number, last[0], gap);
+            self.looked.insert(seen);
+            if image {
+                self.imaged.insert(seen);
+            }
+            if listed.len() == CAPACITY {
+                self.full.insert((last[0], gap));
+            }
+        }
+    }
+}
+
+/// The last request of an operation that asks, and those before it. Not of a run
+/// that is refused as a whole for its length or its room.
+fn last_request(operation: &Operation) -> Option<(&[u8], &[u8])> {
+    let payload = &operation.payload;
+    let length = payload.len();
+    let asks = match operation.number {
+        2 | 3 => length == 16,
+        4 => length > 0 && length.is_multiple_of(16) && operation.a >= length as u64,
+        _ => false,
+    };
+    asks.then(|| payload.split_at(length - 16))
+}
+
+#[test]
+fn every_stream_shows_who_takes_the_place_of_a_reader_that_leaves() {
+    for seed in 1..=40 {
+        let seen = Removals::of(&short(seed));
+        for number in REMOVALS {
+            for gap in GAPS {
+                for operation in [2, 3] {
+                    let left = (operation, number, gap);
+                    assert!(seen.looked.contains(&left), "seed {seed}: {left:?}");
+                }
+            }
+            let left = (4, number, Gap::Middle);
+            assert!(seen.looked.contains(&left), "seed {seed}: {left:?}");
+            for gap in [Gap::Middle, Gap::FirstEqual, Gap::End] {
+                let imaged = [2, 3].map(|operation| (operation, number, gap));
+                let imaged = imaged.iter().any(|left| seen.imaged.contains(left));
+                assert!(imaged, "seed {seed}: {number} {gap:?}");
+            }
+        }
+    }
+}
+
+/// Each step from the middle, and some from elsewhere.
+#[test]
+fn a_long_stream_has_readers_that_leave_a_full_list() {
+    for seed in 1..=3 {
+        let seen = Removals::of(&long(seed)).full;
+        for left in REMOVALS.map(|number| (number, Gap::Middle)) {
+            assert!(seen.contains(&left), "seed {seed}: {left:?}");
+        }
+        for left in [(4, Gap::Beginning), (20, Gap::End), (21, Gap::OneBehind)] {
+            assert!(seen.contains(&left), "seed {seed}: {left:?}");
+        }
     }
 }
 

@@ -1,5 +1,5 @@
-//! The list of readers: a new one at the end, the first equal one found, a gap
-//! closed, blanks behind.
+//! The list of readers: a new one at the end, the first equal one found, the last
+//! one in the gap, blanks behind.
 
 use second::kinds::{BucketId, SharedState, StoredType};
 use second::readers::Readers;
@@ -57,17 +57,110 @@ fn a_new_reader_goes_at_the_end() {
     assert_eq!(readers.past(), [pending(0); 61]);
 }
 
+// Removal.
+
+/// Five readers, of whom no two are equal.
+fn five() -> [SharedState; 5] {
+    let [a, b, c] = each_phase(1);
+    [a, pending(2), b, obtained(1, 6), c]
+}
+
+/// The list without the reader at this place.
+fn without(mut readers: Readers, place: usize) -> Readers {
+    readers.remove(place);
+    readers
+}
+
 #[test]
-fn later_entries_close_the_gap() {
-    for (place, left) in [(0, [1, 2]), (1, [3, 2]), (2, [3, 1])] {
-        let mut readers = list(&[3, 1, 2]);
-        readers.remove(place);
-        assert_eq!(readers, list(&left));
-        assert_eq!(readers.past(), [pending(0); 62]);
+fn the_last_one_moves_into_the_gap() {
+    let [a, b, c, d, e] = five();
+    let left = [[e, b, c, d], [a, e, c, d], [a, b, e, d], [a, b, c, e]];
+    for (place, left) in left.into_iter().enumerate() {
+        let readers = without(list_of(&five()), place);
+        assert_eq!(readers, list_of(&left), "place {place}");
+        assert_eq!(readers.past(), [pending(0); 60]);
     }
-    let mut full = list(&[1; 64]);
-    full.remove(63);
-    assert_eq!(full, list(&[1; 63]));
+}
+
+#[test]
+fn where_the_last_one_goes_nobody_moves() {
+    let [a, b, c, d, _] = five();
+    assert_eq!(without(list_of(&five()), 4), list_of(&[a, b, c, d]));
+    assert_eq!(without(list_of(&[a, b]), 1), list_of(&[a]));
+}
+
+#[test]
+fn the_only_one_leaves_an_empty_list() {
+    for only in each_phase(3) {
+        assert_eq!(without(list_of(&[only]), 0), Readers::none());
+    }
+}
+
+#[test]
+fn one_leaves_a_full_list() {
+    let full = list_of(&[&five()[..], &[pending(3); 58], &[pending2(2)]].concat());
+    assert_eq!(full.length, 64);
+    let [a, b, c, d, e] = five();
+    let first = [&[pending2(2), b, c, d, e][..], &[pending(3); 58]].concat();
+    assert_eq!(without(full.clone(), 0), list_of(&first));
+    let middle = [&[a, b, pending2(2), d, e][..], &[pending(3); 58]].concat();
+    assert_eq!(without(full.clone(), 2), list_of(&middle));
+    let last = [&five()[..], &[pending(3); 58]].concat();
+    assert_eq!(without(full, 63), list_of(&last));
+}
+
+/// Of the others one stands between the equal ones, and one last.
+#[test]
+fn the_first_of_several_equal_goes() {
+    for equal in each_phase(1) {
+        let mut readers = list_of(&[pending(2), equal, pending(0), equal, equal, pending(3)]);
+        let left = [pending(2), pending(3), pending(0), equal, equal];
+        readers.remove(readers.find(equal).unwrap());
+        assert_eq!(readers, list_of(&left));
+        readers.remove(readers.find(equal).unwrap());
+        assert_eq!(readers, list_of(&left[..4]));
+        readers.remove(readers.find(equal).unwrap());
+        assert_eq!(readers, list_of(&left[..3]));
+        assert_eq!(readers.find(equal), None);
+    }
+}
+
+/// All entries are different, and none is blank, past the length either. What each
+/// place has after a removal at each place, from lists of every length.
+#[test]
+fn every_other_place_stays_as_it_is() {
+    let entries: [_; 64] = std::array::from_fn(|place| obtained(1, place as u64 + 1));
+    for length in 1..=64 {
+        for gap in 0..length {
+            let before = Readers {
+                length: length as u16,
+                entries,
+            };
+            let after = without(before.clone(), gap);
+            assert_eq!(usize::from(after.length), length - 1);
+            for (place, entry) in after.entries.into_iter().enumerate() {
+                let expected = if place == length - 1 {
+                    pending(0)
+                } else if place == gap {
+                    before.entries[length - 1]
+                } else {
+                    before.entries[place]
+                };
+                assert_eq!(entry, expected, "{length} readers, {gap} goes, {place}");
+            }
+        }
+    }
+}
+
+/// One comes and stands last, whoever has left before.
+#[test]
+fn a_new_reader_goes_at_the_end_after_a_removal() {
+    let [a, b, c, d, e] = five();
+    let mut readers = without(list_of(&five()), 1);
+    readers.push(b);
+    assert_eq!(readers, list_of(&[a, e, c, d, b]));
+    readers.change(1, pending(3));
+    assert_eq!(readers, list_of(&[a, pending(3), c, d, b]));
 }
 
 #[test]

@@ -325,7 +325,7 @@ fn the_first_equal_reader_is_the_one() {
     let page = step(page, &Request::new(20, 0, 0, 0)).page;
     assert_eq!(
         page.shared_state.listed(),
-        [pending2(1), pending(0), pending(1)]
+        [pending(1), pending2(1), pending(0)]
     );
 }
 

@@ -11,3 +11,5 @@ pub mod Clean
 pub mod Cases
 pub mod Exhibits
 pub mod NoSecond
+pub mod Order
+pub mod Lists

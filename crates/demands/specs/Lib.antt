@@ -7,3 +7,5 @@ pub mod Restart
 pub mod Clean
 pub mod Cases
 pub mod Exhibits
+pub mod Order
+pub mod Lists

@@ -6,3 +6,4 @@ pub mod Arms
 pub mod Pick
 pub mod Firsts
 pub mod Tables
+pub mod Rearranged

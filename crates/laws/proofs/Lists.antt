@@ -1,9 +1,9 @@
 -- Laws of `tally`, `every` and `without`, over any element type: what each says after the list grows, loses or changes an
--- entry. In order: `without` at a seam, past the end, and its length; `every` of two lists and of parts, after each change, at
--- an entry, and of two tests; `tally` of two lists, after each change, and what it says of the entries.
+-- entry. In order: `without`, its length, at a seam, past the end, and in an array (`filled`); `every` of two lists and of parts, after
+-- each change, at an entry, and of two tests; `tally` of two lists, after each change, and what it says of the entries.
 -- `set` at a seam is `set-append-seam` of lib.Seq. Assumes nothing.
-use Prim.Native.Nat.{ℕ, zero, suc, _+_, _<_, _≤_}
-use mathlib.Core.Path.{_≡_, refl}
+use Prim.Native.Nat.{ℕ, zero, suc, _+_, _-_, _<_, _≤_}
+use mathlib.Core.Path.{_≡_, refl, ap, _∙_}
 use mathlib.Core.Bool.{Bool, true, false, cond, not, _&&_}
 use mathlib.Core.List.{List, [], _∷_, _++_, append-nil}
 use native.Mathlib.Nat.{suc-add}
@@ -11,8 +11,8 @@ use native.Mathlib.Omega.{arith}
 use lib.Dec.{T}
 use lib.ListN.{length, take, drop, getD, set, replicate, length-append, length-take, length-drop, take-append-drop}
 use lib.ListN.{drop-of-length-le}
-use lib.Seq.{take-append-seam, drop-append-add, take-all}
-use Rattle.laws.specs.Lists.{tally, every, without}
+use lib.Seq.{take-append-seam, drop-append-add, take-all, drop-cons, getD-take, length-take-le, set-split, take-take}
+use Rattle.laws.specs.Lists.{tally, every, lastFirst, without}
 use Rattle.laws.proofs.Tests.{both, halves}
 
 -- what one entry adds to a tally
@@ -20,7 +20,7 @@ pub one-le : (t : Bool) → cond t 1 0 ≤ 1
 one-le true = omega arith
 one-le false = omega arith
 
-one-is : (t : Bool) → T t → _≡_ {A = ℕ} (cond t 1 0) 1
+pub one-is : (t : Bool) → T t → _≡_ {A = ℕ} (cond t 1 0) 1
 one-is true h = refl
 one-is false h = absurd h
 
@@ -30,19 +30,51 @@ none-is false e = tt
 
 module _ {A : Type 0} where
   -- ---- without
+  -- the last entry, and then the others
+  last-first : (l : List A) (d : A) → 0 < length l → lastFirst l ≡ getD l (length l - 1) d ∷ take (length l - 1) l
+  last-first l d h =
+      let n = length l - 1 in
+      let inside : n < length l = omega arith in
+      let all : length l ≤ suc n = omega arith in
+      rw (drop-cons l n d, drop-of-length-le l {i = suc n})
+
+  -- there is one entry less
+  pub length-without : (l : List A) (i : ℕ) → i < length l → length (without i l) + 1 ≡ length l
+  length-without l i h = simp (length-append, length-take, length-drop) (omega arith)
+
   -- the entry at the seam goes
   pub without-split : (before : List A) (x : A) (after : List A)
-      → without (length before) (before ++ x ∷ after) ≡ before ++ after
+      → without (length before) (before ++ x ∷ after) ≡ before ++ lastFirst after
   without-split before x after = rw (take-append-seam, drop-append-add before (x ∷ after) 1)
 
   -- past the end nothing goes
   pub without-out : (l : List A) (i : ℕ) → length l ≤ i → without i l ≡ l
   without-out l i h =
       let past : length l ≤ i + 1 = omega arith in
-      rw (take-all i l, drop-of-length-le l {i = i + 1}, append-nil)
+      rw (take-all i l, drop-of-length-le l {i = i + 1}, append-nil l)
 
-  pub length-without : (l : List A) (i : ℕ) → i < length l → length (without i l) + 1 ≡ length l
-  length-without l i h = simp (length-append, length-take, length-drop) (omega arith)
+  -- in an array, whose first entries up to a last one are the list: that one over the entry that goes, and another where it stood
+  filled-to : (items : List A) (at last : ℕ) (b d : A) → at ≤ last → last < length items
+      → set (set items at (getD items last d)) last b ≡ without at (take (suc last) items) ++ b ∷ drop (suc last) items
+  filled-to [] at last b d h k = absurd (omega arith)
+  filled-to (x ∷ items) zero zero b d h k = refl
+  filled-to (x ∷ items) zero (suc m) b d h k =
+      let inside : m < length items = omega arith in
+      let n : length (take (suc m) items) ≡ suc m = length-take-le (suc m) items (omega arith) in
+      let some : 0 < length (take (suc m) items) = omega arith in
+      let e : suc m - 1 ≡ m = omega arith in
+      let last = getD-take (suc m) items m d (omega arith) in
+      let others = take-take m (suc m) items (omega arith) in
+      rw (set-split items m b, last-first (take (suc m) items) d, n, e, last, others)
+  filled-to (x ∷ items) (suc i) zero b d h k = absurd (omega arith)
+  filled-to (x ∷ items) (suc i) (suc m) b d h k =
+      rw suc-add (ap (λ (l : List A). x ∷ l) (filled-to items i m b d (omega arith) (omega arith)))
+
+  pub filled : (items : List A) (at len : ℕ) (b d : A) → at < len → len ≤ length items
+      → set (set items at (getD items (len - 1) d)) (len - 1) b ≡ without at (take len items) ++ b ∷ drop len items
+  filled items at len b d h k =
+      let e : len ≡ suc (len - 1) = omega arith in
+      filled-to items at (len - 1) b d (omega arith) (omega arith) ∙ rw (← e)
 
   -- ---- all
   module _ (test : A → Bool) where
@@ -78,8 +110,15 @@ module _ {A : Type 0} where
     pub every-drop : (l : List A) (n : ℕ) → T (every test l) → T (every test (drop n l))
     every-drop l n t = every-parts (take n l) (drop n l) (rw take-append-drop t) .1
 
+    every-last-first : (l : List A) → T (every test l) → T (every test (lastFirst l))
+    every-last-first l t =
+        let n = length l - 1 in
+        every-append (drop n l) (take n l) (every-drop l n t) (every-take l n t)
+
     pub every-without : (l : List A) (i : ℕ) → T (every test l) → T (every test (without i l))
-    every-without l i t = every-append (take i l) (drop (i + 1) l) (every-take l i t) (every-drop l (i + 1) t)
+    every-without l i t =
+        every-append (take i l) (lastFirst (drop (i + 1) l)) (every-take l i t)
+        (every-last-first (drop (i + 1) l) (every-drop l (i + 1) t))
 
     -- each entry, and copies of one
     pub every-at : (l : List A) (i : ℕ) (d : A) → T (every test l) → i < length l → T (test (getD l i d))
@@ -128,10 +167,20 @@ module _ {A : Type 0} where
     tally-put (y ∷ l) zero x d h = omega arith
     tally-put (y ∷ l) (suc i) x d h = omega (arith, tally-put l i x d (omega arith))
 
+    pub tally-last-first : (l : List A) → tally test (lastFirst l) ≡ tally test l
+    tally-last-first l =
+        let n = length l - 1 in
+        omega (
+          arith,
+          tally-append (drop n l) (take n l),
+          tally-append (take n l) (drop n l),
+          ap (tally test) (take-append-drop n l),
+        )
+
     pub tally-without : (l : List A) (i : ℕ) (d : A) → i < length l
         → tally test (without i l) + cond (test (getD l i d)) 1 0 ≡ tally test l
     tally-without [] i d h = absurd (omega arith)
-    tally-without (x ∷ l) zero d h = omega arith
+    tally-without (x ∷ l) zero d h = omega (arith, tally-last-first l)
     tally-without (x ∷ l) (suc i) d h = rw suc-add (omega (arith, tally-without l i d (omega arith)))
 
     -- from the tally to the entries, and back

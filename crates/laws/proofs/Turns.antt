@@ -1,17 +1,15 @@
 -- One turn of each loop over readers, here and in the crates above, as laws over any element type and any list. In order: a
 -- look at one entry after the other (`next`, `turn`, with the ends `past` and `past-all`); a count of those that pass a test
--- (`Counting`); whether all pass it (`Passing`); a gap that is closed (`moved`, `stands`, with the end `closed-at`). Assumes
--- nothing.
-use Prim.Native.Nat.{ℕ, suc, _+_, _-_, _<_, _≤_, min}
+-- (`Counting`); whether all pass it (`Passing`). Assumes nothing.
+use Prim.Native.Nat.{ℕ, _+_, _<_, _≤_, min}
 use mathlib.Core.Path.{_≡_, _∙_, sym}
 use mathlib.Core.Bool.{Bool, true, false}
-use mathlib.Core.List.{List, [], _∷_, _++_}
+use mathlib.Core.List.{List, [], _∷_}
 use native.Mathlib.Omega.{arith}
 use native.Mathlib.Numerals.{add-one}
-use lib.ListN.{length, take, drop, getD, set, drop-of-length-le, length-take, length-drop}
-use lib.Seq.{drop-cons, getD-take, getD-drop, paste, paste-suc, drop-paste, length-paste-head, take-add, drop-at}
-use lib.Seq.{length-take-le, take-take, set-at}
-use Rattle.laws.specs.Lists.{tally, every, without}
+use lib.ListN.{length, take, drop, getD, drop-of-length-le, length-take}
+use lib.Seq.{drop-cons, getD-take}
+use Rattle.laws.specs.Lists.{tally, every}
 
 -- n of the first i entries pass: with those that are left, that is the tally of an array's first `len`
 pub record Counting {A : Type 0} (test : A → Bool) (items : List A) (len n i : ℕ) : Type 0 where
@@ -76,44 +74,3 @@ module _ {A : Type 0} where
 
       pub one-passes : test (getD items i d) ≡ true → Passing test all items len (i + 1)
       one-passes t = record { whole = so-far .whole ∙ simp (turn d, t) }
-
-  -- ---- a gap is closed: the later entries move down, one after the other
-  module _ (old : List A) (at n : ℕ) (b : A) where
-    -- the next of the later entries moves down
-    pub moved : at + 1 + n < length old
-        → set (paste old at (drop (at + 1) old) n) (at + n) (getD old (at + 1 + n) b) ≡ paste old at (drop (at + 1) old) (n + 1)
-    moved h =
-        let inside : at + n < length old = omega arith in
-        let more : n < length (drop (at + 1) old) = simp length-drop (omega arith) in
-        rw (← getD-drop (at + 1) old n b, paste-suc, ← add-one n)
-
-    -- it is read where it still stands, though others have moved
-    pub stands : at + 1 + n < length old → getD (paste old at (drop (at + 1) old) n) (at + 1 + n) b ≡ getD old (at + 1 + n) b
-    stands h =
-        let s = drop (at + 1) old in
-        let more : n ≤ length s = simp length-drop (omega arith) in
-        let early : at ≤ length old = omega arith in
-        let e : at + 1 + n ≡ at + n + 1 = omega arith in
-        rw (e, ← getD-drop (at + n) (paste old at s n) 1 b, drop-paste, getD-drop)
-
-    -- b, where the last of them stood
-    closed : at + 1 + n ≤ length old
-        → set (paste old at (drop (at + 1) old) n) (at + n) b ≡ without at (take (at + 1 + n) old) ++ b ∷ drop (at + 1 + n) old
-    closed h =
-        let s = drop (at + 1) old in
-        let inside : at + n < length old = omega arith in
-        let front : length (take at old ++ take n s) ≡ at + n =
-        length-paste-head old at s n (omega arith) (simp length-drop (omega arith)) in
-        let later : drop (at + 1) (take (at + 1 + n) old) ≡ take n s =
-        rw take-add (drop-at (take (at + 1) old) (take n s) (at + 1) (length-take-le (at + 1) old (omega arith))) in
-        let early : take at (take (at + 1 + n) old) ≡ take at old = take-take at (at + 1 + n) old (omega arith) in
-        let next : suc (at + n) ≡ at + 1 + n = omega arith in
-        let put = set-at (take at old ++ take n s) (getD old (at + n) b) (drop (suc (at + n)) old) b (at + n) in
-        rw (drop-cons old (at + n) b, put, later, early, next)
-
-    pub closed-at : (len : ℕ) → len ≤ length old → len ≡ at + 1 + n
-        → set (paste old at (drop (at + 1) old) n) (len - 1) b ≡ without at (take len old) ++ b ∷ drop len old
-    closed-at len h e =
-        let f : len - 1 ≡ at + n = omega arith in
-        let h : at + 1 + n ≤ length old = omega arith in
-        rw (f, e, closed)

@@ -4,3 +4,4 @@ pub mod Least
 pub mod Exact
 pub mod HandsOut
 pub mod Machine
+pub mod Order

@@ -3,3 +3,4 @@ pub mod Step
 pub mod Applies
 pub mod Moves
 pub mod Allowed
+pub mod Order

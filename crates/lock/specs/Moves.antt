@@ -22,7 +22,8 @@
 --   add exc_state += Some(x);                        (add : x after, and nobody before unless a `remove` went first)
 --   remove shared_state -= { x };                    (remove : pre .shared-state ≡ before ++ x ∷ after)
 --                                                    (the-first : Absent x before), the first equal entry is taken
---                                                    (removed : post .shared-state ≡ before ++ after)
+--                                                    (removed : post .shared-state ≡ before ++ lastFirst after), the last one
+--                                                    stands in its place
 --   add shared_state += { x };                       (add : post .shared-state ≡ pre .shared-state ++ x ∷ []), at the end;
 --     after a `remove`: in its place                 (add : post .shared-state ≡ before ++ x ∷ after)
 --   remove ref_counts -= [b => let n];               (remove-ref-counts : countOf pre b ≡ n)
@@ -45,7 +46,7 @@ use mathlib.Core.Bool.{Bool, true, false, cond, _||_}
 use mathlib.Core.List.{List, [], _∷_, _++_}
 use lib.Dec.{T, eqb}
 use lib.ListN.{length, getD}
-use Rattle.laws.specs.Lists.{among}
+use Rattle.laws.specs.Lists.{among, lastFirst}
 use Rattle.kinds.specs.declared.{Bucket.Bucket, Visited.Visited, Count.Count, MaybeBucket.MaybeBucket, Flag.Flag}
 use Rattle.kinds.specs.declared.{Storage.Storage, Phase.Phase, Reader.Reader, ExcState.ExcState}
 use Rattle.kinds.specs.declared.{LoadingState.LoadingState, WritebackState.WritebackState}
@@ -205,7 +206,7 @@ pub data Moves (pre : RwLock) (q : Request) (post : RwLock) (out : Storage) : Ty
       (require-let : reader ≡ obtained (q .bucket) (q .value))
       (remove : pre .shared-state ≡ before ++ reader ∷ after)
       (the-first : Absent reader before)
-      (removed : post .shared-state ≡ before ++ after)
+      (removed : post .shared-state ≡ before ++ lastFirst after)
       (match-flag : Arm pre post Flag.Available Flag.Claimed
       ⊎ Arm pre post Flag.Writeback Flag.WritebackAndClaimed)
       (add : (pre .exc-state ≡ ExcState.None) × (post .exc-state ≡ ExcState.Claim (some (q .bucket)) (q .value)))
@@ -365,7 +366,7 @@ pub data Moves (pre : RwLock) (q : Request) (post : RwLock) (out : Storage) : Ty
       (remove-ref-counts : countOf pre (q .bucket) ≡ pre-count)
       (remove-shared-state : pre .shared-state ≡ before ++ pending (q .bucket) ∷ after)
       (the-first : Absent (pending (q .bucket)) before)
-      (removed : post .shared-state ≡ before ++ after)
+      (removed : post .shared-state ≡ before ++ lastFirst after)
       (as-nat : 1 ≤ pre-count)
       (add-ref-counts : countOf post (q .bucket) ≡ pre-count - 1)
       (elsewhere : Elsewhere pre post (q .bucket))
@@ -378,7 +379,7 @@ pub data Moves (pre : RwLock) (q : Request) (post : RwLock) (out : Storage) : Ty
       (remove-ref-counts : countOf pre (q .bucket) ≡ pre-count)
       (remove-shared-state : pre .shared-state ≡ before ++ pending2 (q .bucket) ∷ after)
       (the-first : Absent (pending2 (q .bucket)) before)
-      (removed : post .shared-state ≡ before ++ after)
+      (removed : post .shared-state ≡ before ++ lastFirst after)
       (as-nat : 1 ≤ pre-count)
       (add-ref-counts : countOf post (q .bucket) ≡ pre-count - 1)
       (elsewhere : Elsewhere pre post (q .bucket))
@@ -391,7 +392,7 @@ pub data Moves (pre : RwLock) (q : Request) (post : RwLock) (out : Storage) : Ty
       (remove-ref-counts : countOf pre (q .bucket) ≡ pre-count)
       (remove-shared-state : pre .shared-state ≡ before ++ obtained (q .bucket) (q .value) ∷ after)
       (the-first : Absent (obtained (q .bucket) (q .value)) before)
-      (removed : post .shared-state ≡ before ++ after)
+      (removed : post .shared-state ≡ before ++ lastFirst after)
       (as-nat : 1 ≤ pre-count)
       (add-ref-counts : countOf post (q .bucket) ≡ pre-count - 1)
       (elsewhere : Elsewhere pre post (q .bucket))

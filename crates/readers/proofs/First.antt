@@ -11,7 +11,7 @@ use native.Mathlib.Omega.{arith}
 use lib.Dec.{T}
 use lib.ListN.{length, take, drop, getD, set}
 use lib.Seq.{split-at, set-append-seam}
-use Rattle.laws.specs.Lists.{every, without}
+use Rattle.laws.specs.Lists.{every, lastFirst, without}
 use Rattle.laws.proofs.Tests.{is-true, to-true, is-false, to-false, both, halves}
 use Rattle.laws.proofs.Lists.{without-split}
 use Rattle.kinds.specs.declared.Reader.{Reader}
@@ -109,7 +109,7 @@ module _ (x : Reader) where
     split-place : i ≡ length before
     split-place = cc (find-split before after none)
 
-    pub removed-first : without i (before ++ x ∷ after) ≡ before ++ after
+    pub removed-first : without i (before ++ x ∷ after) ≡ before ++ lastFirst after
     removed-first = rw split-place (without-split before x after)
 
     pub put-first : (y : Reader) → set (before ++ x ∷ after) i y ≡ before ++ y ∷ after

@@ -1,3 +1,4 @@
 pub mod Equal
 pub mod First
 pub mod Bridge
+pub mod Places

@@ -210,7 +210,7 @@ pub fn put(rs: Readers, at: usize, r: Reader) -> Readers
     Readers { items, len }
 }
 
-// The reader at a place taken out: the later ones close the gap.
+// The reader at a place taken out: the last one fills the gap.
 pub fn remove(rs: Readers, at: usize) -> Readers
     ensures { λ p. ⌜ p ≡ removedAt rs at ⌝ }
 {
@@ -222,13 +222,8 @@ pub fn remove(rs: Readers, at: usize) -> Readers
         return rs;
     }
     let mut items = rs.items;
-    let later = len - at - 1;
-    let mut k: usize = 0;
-    while k < later {
-        let r = items[at + 1 + k];
-        items[at + k] = r;
-        k += 1;
-    }
+    let last = items[len - 1];
+    items[at] = last;
     items[len - 1] = blank();
     Readers {
         items,

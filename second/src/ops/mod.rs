@@ -13,6 +13,7 @@ pub mod extras;
 pub mod image;
 pub mod pages;
 pub mod random;
+pub mod removals;
 pub mod request;
 pub mod restarts;
 pub mod returns;
@@ -74,6 +75,7 @@ pub fn stream(plan: &Plan) -> Vec<u8> {
     scripts::play_situations(&mut stream, &mut random, plan);
     returns::play(&mut stream, &mut random, plan);
     clean::play(&mut stream, &mut random, plan);
+    removals::play(&mut stream, plan);
     damage::play(&mut stream, plan);
     back::play(&mut stream, &mut random);
     runs::play(&mut stream, &mut random, plan);

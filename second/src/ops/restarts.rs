@@ -46,7 +46,7 @@ fn busy() -> Page {
 
 /// A loaded page with 64 readers of all phases, 31 of them at each of two
 /// buckets.
-fn full() -> Vec<Draft> {
+pub fn full() -> Vec<Draft> {
     vec![
         step(12),
         step(17).of(LOADED),

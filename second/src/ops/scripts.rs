@@ -120,7 +120,8 @@ const CASES: [&[Draft]; 12] = [
 ];
 
 /// Which of several equal readers is meant shows where another one stands
-/// between them, so after each of these comes a look.
+/// between them and the list ends with another one, who takes the place of one
+/// that leaves. So after each of these comes a look.
 const EQUAL_READERS: [&[Draft]; 3] = [
     // Pending: one leaves, then two change.
     &[
@@ -129,6 +130,7 @@ const EQUAL_READERS: [&[Draft]; 3] = [
         step(19),
         step(19).at(2),
         step(19),
+        step(19).at(3),
         step(20),
         step(23),
         step(23),
@@ -143,10 +145,11 @@ const EQUAL_READERS: [&[Draft]; 3] = [
         step(19).at(2),
         step(19),
         step(23),
+        step(19).at(3),
         step(21),
         step(24),
     ],
-    // Obtained: one leaves, then one makes a claim.
+    // Obtained: one leaves, then one makes a claim, where another one has come.
     &[
         step(19),
         step(23),
@@ -159,7 +162,9 @@ const EQUAL_READERS: [&[Draft]; 3] = [
         step(19),
         step(23),
         step(24),
+        step(19).at(3),
         step(22).of(LOADED),
+        step(19).at(1),
         step(4).of(LOADED),
     ],
 ];

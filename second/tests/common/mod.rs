@@ -1,12 +1,13 @@
-//! Streams of `ops`, taken apart, and the past that they give a page. Each test
-//! takes of it what it needs.
+//! Streams of `ops`, taken apart, the past that they give a page, and exact lists.
+//! Each test takes of it what it needs.
 
 #![allow(dead_code)]
 
 pub mod history;
+pub mod lists;
 
 use second::drill::{Drill, Operation};
-use second::kinds::Answer;
+use second::kinds::{Answer, BucketId, Request, SharedState};
 use second::record::Page;
 use second::run::answer_line;
 use second::wire::{answer_bytes, value_at};
@@ -107,4 +108,16 @@ fn answer(page: &mut Page, operation: &Operation) -> Vec<Asked> {
         });
     }
     answered
+}
+
+/// Whom the request takes off the list, if it is accepted.
+pub fn leaver(request: &Request) -> Option<SharedState> {
+    let bucket = BucketId(request.bucket);
+    let value = request.value;
+    match request.step {
+        20 => Some(SharedState::Pending { bucket }),
+        21 => Some(SharedState::Pending2 { bucket }),
+        4 | 22 => Some(SharedState::Obtained { bucket, value }),
+        _ => None,
+    }
 }

@@ -11,7 +11,7 @@ use native.Mathlib.Omega.{arith}
 use borrow.Author.Tests.{eqb-true, eqb-false, eq-eqb}
 use lib.Dec.{T, eqb, leb, ltb→lt, nleb→lt, eqb→eq}
 use lib.ListN.{length, length-set}
-use Rattle.laws.specs.Lists.{among}
+use Rattle.laws.specs.Lists.{among, lastFirst}
 use Rattle.laws.proofs.Pick.{_&_, pick}
 use Rattle.kinds.specs.declared.{Bucket.Bucket, Count.Count, MaybeBucket.MaybeBucket, Storage.Storage, Phase.Phase}
 use Rattle.kinds.specs.declared.{Reader.Reader}
@@ -102,7 +102,7 @@ module _ (h : Head) (l : List Reader) (q : Request) where
   abbrev Leaving : Reader → RwLock → Storage → Type 0
   Leaving x post out =
       (n : ℕ) (before after : List Reader) → q .bucket .0 < buckets → countOf (stateWith h l) (q .bucket) ≡ n
-      → l ≡ before ++ x ∷ after → Absent x before → post .shared-state ≡ before ++ after → 1 ≤ n
+      → l ≡ before ++ x ∷ after → Absent x before → post .shared-state ≡ before ++ lastFirst after → 1 ≤ n
       → countOf post (q .bucket) ≡ n - 1 → Elsewhere (stateWith h l) post (q .bucket)
       → Only (Field.ref-counts ∷ Field.shared-state ∷ []) (stateWith h l) post out → Moves (stateWith h l) q post out
 

@@ -10,6 +10,7 @@ use borrow.Author.Tests.{lt-ltb, lt-leb, eq-eqb}
 use lib.Dec.{T, eqb, ltb→lt}
 use lib.ListN.{length}
 use lib.Seq.{set-append-seam}
+use Rattle.laws.specs.Lists.{lastFirst}
 use Rattle.laws.proofs.Lists.{without-split}
 use Rattle.kinds.specs.declared.{Bucket.Bucket, MaybeBucket.MaybeBucket, Storage.Storage, Reader.Reader}
 use Rattle.kinds.specs.declared.{ExcState.ExcState, LoadingState.LoadingState}
@@ -101,7 +102,7 @@ module _ (h : Head) (l : List Reader) (q : Request) (h′ : Head) (l′ : List R
   -- 20 to 22: the reader x leaves
   leaves : (x : Reader) (n : ℕ) (before after : List Reader)
       → q .bucket .0 < buckets → countOf (stateWith h l) (q .bucket) ≡ n → l ≡ before ++ x ∷ after → Absent x before
-      → l′ ≡ before ++ after → countOf (stateWith h′ l′) (q .bucket) ≡ n - 1
+      → l′ ≡ before ++ lastFirst after → countOf (stateWith h′ l′) (q .bucket) ≡ n - 1
       → Elsewhere (stateWith h l) (stateWith h′ l′) (q .bucket)
       → Only (Field.ref-counts ∷ Field.shared-state ∷ []) (stateWith h l) (stateWith h′ l′) out
       → Accepts (decided h (sharedDecCount h q (findIn l x))) l h′ l′ out

@@ -11,7 +11,7 @@ use borrow.Author.Tests.{eqb-true, eqb-false, eq-eqb, ne-eqb}
 use lib.Dec.{T, eqb, leb}
 use lib.ListN.{length, take, drop, getD, set, length-set}
 use lib.Seq.{ext-getD}
-use Rattle.laws.specs.Lists.{without}
+use Rattle.laws.specs.Lists.{lastFirst, without}
 use Rattle.laws.proofs.Tests.{both, halves, to-true, is-true}
 use Rattle.kinds.specs.declared.{Count.Count, MaybeBucket.MaybeBucket, Storage.Storage, Reader.Reader}
 use Rattle.kinds.specs.Limits.{capacity}
@@ -111,7 +111,7 @@ pub record Split (x : Reader) (l : List Reader) (i : ℕ) : Type 0 where
   pub after : List Reader
   pub whole : l ≡ before ++ x ∷ after
   pub first : Absent x before
-  pub removed : without i l ≡ before ++ after
+  pub removed : without i l ≡ before ++ lastFirst after
   pub put : (y : Reader) → set l i y ≡ before ++ y ∷ after
   pub inside : i < length l
   pub equal : getD l i blankReader ≡ x

@@ -1,86 +1,42 @@
--- `readers::remove` meets its contract. The loop's invariant: the array with the first k of the later readers copied over from
--- the place; a turn copies one more, and at the end a blank stands where the last one stood. Assumes nothing.
-use Prim.Native.Nat.{ℕ, _≤_, _<_, _+_, _-_}
-use mathlib.Core.Path.{_≡_}
-use mathlib.Core.List.{List}
+-- `readers::remove` meets its contract: each return, by the tests on the length and the place; the last one over the reader that goes,
+-- and a blank where it stood, are `removed-items`. Assumes nothing.
+use Prim.Native.Nat.{_<_, _≤_}
+use mathlib.Core.Path.{_≡_, sym}
 use native.Mathlib.Omega.{arith}
 use borrow.Author.Needs.{needs}
-use borrow.Author.Tests.{le-leb, lt-leb, le-ltb, lt-ltb}
-use lib.ListN.{length, drop, length-map}
-use lib.Seq.{paste, paste-zero}
-use Rattle.laws.proofs.Turns.{closed-at, moved, stands}
-use Rattle.kinds.specs.declared.Reader.{Reader}
+use borrow.Author.Tests.{le-leb, le-ltb, lt-leb}
+use lib.Dec.{leb, ltb, le→leb, lt→ltb}
+use lib.ListN.{length, length-map}
+use Rattle.laws.proofs.Tests.{both}
 use Rattle.kinds.specs.Limits.{capacity}
-use Rattle.readers.specs.Listed.{removedAt, blankReader}
+use Rattle.readers.specs.Listed.{removedAt}
+use Rattle.readers.proofs.Places.{removed-items}
 use Rattle.readers.proofs.remove.Statement.{statement}
 use Rattle.readers.proofs.remove.Tie as tie
 
-record Closing (at later : ℕ) (old items : List Reader) (k : ℕ) : Type 0 where
-  within : k ≤ later
-  full : length old ≡ capacity
-  whole : items ≡ paste old at (drop (at + 1) old) k
-
-abbrev Inv-loop : tie.InvT-loop
-Inv-loop at len items₀ later k₀ items k = Closing at later items₀ items k
-
-abbrev μ-loop : tie.MeasureT-loop
-μ-loop at len items₀ later k₀ items k = later - k
-
-loop-holds : tie.Need-loop-holds Inv-loop μ-loop
-loop-holds c =
-    let b = c .before .before .before in
-    let a = b .args in
-    record {
-      within = search needs;
-      full = simp length-map at (b .good .0 .1 .1 .0 .1 .0 .1);
-      whole = paste-zero (a .rs .items) (a .at) (drop (a .at + 1) (a .rs .items));
-    }
-
-loop-again : tie.Need-loop-again Inv-loop μ-loop
-loop-again c =
-    let a = c .before .before .before .before .before .before .args in
-    let l = c .before .before .loop in
-    let old = a .rs .items in
-    let h : a .at + 1 + l .k < length old = omega arith in
-    record {
-      within = omega arith;
-      full = l .inv .full;
-      whole = rw (l .inv .whole, stands old (a .at) (l .k) blankReader h) (moved old (a .at) (l .k) blankReader h);
-    }
-
-returns-3 : tie.Need-returns-3 Inv-loop μ-loop
-unfolding removedAt
+returns-3 : tie.Need-returns-3
 returns-3 c =
-    let a = c .before .before .before .before .before .before .args in
-    let l = c .before .before .loop in
-    let e : a .rs .len ≡ a .at + 1 + l .k = omega arith in
-    let h : a .rs .len ≤ length (a .rs .items) = omega arith in
-    let t : a .at < a .rs .len = omega arith in
-    let u : a .rs .len ≤ capacity = omega arith in
-    let closed = closed-at (a .rs .items) (a .at) (l .k) blankReader (a .rs .len) h e in
-    simp (l .inv .whole, c .blank .ensures, closed, lt-ltb _ _ t, le-leb _ _ u)
+    let b = c .before .before .before .before in
+    let a = b .before .args in
+    let full : length (a .rs .items) ≡ capacity = simp length-map at (b .before .good .0 .1 .1 .0 .1 .0 .1) in
+    let fits : a .rs .len ≤ capacity = omega arith in
+    let inside : a .at < a .rs .len = omega arith in
+    let here = both (leb (a .rs .len) capacity) (ltb (a .at) (a .rs .len)) (le→leb _ _ fits) (lt→ltb _ _ inside) in
+    rw (c .blank .ensures) (sym (removed-items (a .rs) (a .at) full here))
 
 pub remove-spec : {M : Type 1} → statement M
 unfolding removedAt
 remove-spec =
     tie.close
-    (tie.spec Inv-loop μ-loop
+    (tie.spec
     (λ c. simp (lt-leb _ _ (c .if1 .taken)))
     (λ c. simp (le-ltb _ _ (c .if2 .taken), le-leb _ _ (c .before .if1 .left)))
     (λ c. search needs)
     (λ c. search needs)
-    loop-holds
     (λ c. search needs)
     (λ c. search needs)
     (λ c. search needs)
-    (λ c. search needs)
-    (λ c. search needs)
-    (λ c. search needs)
-    (λ c. search needs)
-    (λ c. search needs)
-    (λ c. search needs)
-    loop-again
-    (λ c κs. search needs)
+    (λ c κs. tt)
     (λ c. search needs)
     (λ c. search needs)
     (λ c. search needs)
