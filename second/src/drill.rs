@@ -7,6 +7,7 @@ use std::io::{self, BufReader, BufWriter, Read, Write};
 
 use crate::image::{read_image, write_image};
 use crate::kinds::{answer_number, Answer, Refusal, Request};
+use crate::pieces::{finish, take, Carry};
 use crate::raw::{read_raw, reader_bytes};
 use crate::record::{census, fresh, judge_record, lowest_broken_rule, Page};
 use crate::run::run;
@@ -102,17 +103,26 @@ fn read_up_to(input: &mut impl Read, length: usize) -> io::Result<Vec<u8>> {
 /// What the drill keeps from one operation to the next.
 pub struct Drill {
     page: Page,
+    carry: Carry,
 }
 
 impl Drill {
-    /// At first the page is fresh, of value 0.
+    /// At first the page is fresh, of value 0, and nothing is carried.
     pub fn start() -> Drill {
-        Drill { page: fresh(0) }
+        Drill {
+            page: fresh(0),
+            carry: Carry::EMPTY,
+        }
     }
 
     /// The page as it is now.
     pub fn page(&self) -> &Page {
         &self.page
+    }
+
+    /// The carry as it is now.
+    pub fn carry(&self) -> &Carry {
+        &self.carry
     }
 
     /// Does the operation and gives back what is written; none, and nothing is
@@ -130,6 +140,9 @@ impl Drill {
             7 => self.raw(payload),
             8 => self.read_image(payload),
             9 => self.write_image(a),
+            10 => self.take(payload, a),
+            11 => answer(finish(&self.carry)),
+            12 => self.set_carry(payload),
             _ => return None,
         })
     }
@@ -184,16 +197,47 @@ impl Drill {
         let written = write_image(&self.page, &mut bytes);
         with_buffer(written, &bytes)
     }
+
+    fn take(&mut self, piece: &[u8], room: u64) -> Vec<u8> {
+        let mut answers = buffer(room);
+        let taken = take(self.page.clone(), self.carry, piece, &mut answers);
+        self.page = taken.page;
+        self.carry = taken.carry;
+        let number = answer_number(&taken.answer);
+        [&line(number)[..], &carry_bytes(&self.carry), &answers].concat()
+    }
+
+    fn set_carry(&mut self, payload: &[u8]) -> Vec<u8> {
+        let [len, bytes @ ..] = first_sixteen(payload);
+        let len = usize::from(len);
+        self.carry = Carry { bytes, len };
+        answer(Ok(None))
+    }
 }
 
 fn write_back(payload: &[u8], room: u64) -> Vec<u8> {
-    let mut fields = [0; RECORD];
-    let given = payload.len().min(RECORD);
-    fields[..given].copy_from_slice(&payload[..given]);
+    let fields = first_sixteen(payload);
     let request = Request::new(fields[0], fields[1], fields[2], value_at(&fields, 8));
     let mut bytes = buffer(room);
     let written = write_request(&request, &mut bytes);
     with_buffer(written, &bytes)
+}
+
+/// The payload's first sixteen bytes; what is missing is zero.
+fn first_sixteen(payload: &[u8]) -> [u8; RECORD] {
+    let mut bytes = [0; RECORD];
+    let given = payload.len().min(RECORD);
+    bytes[..given].copy_from_slice(&payload[..given]);
+    bytes
+}
+
+/// A carry as it is written: its length, then its bytes. No length is above a
+/// byte: it came from one, or a piece left it.
+fn carry_bytes(carry: &Carry) -> [u8; RECORD] {
+    let mut bytes = [0; RECORD];
+    bytes[0] = carry.len as u8;
+    bytes[1..].copy_from_slice(&carry.bytes);
+    bytes
 }
 
 /// The first line of a look: soundness, the lowest broken rule, the census.

@@ -236,9 +236,9 @@ pub enum Refusal {
     CountFull = 10,
     /// The list holds 64 readers.
     ListFull = 11,
-    /// The bytes are not whole records.
+    /// The bytes are not whole records; a carry is not valid, or not empty at the end.
     NotWhole = 12,
-    /// The run has more than 2,048 requests.
+    /// The run has more than 2,048 requests, or the piece more than 4,096 bytes.
     TooMany = 13,
     /// The answer space is too small.
     NoRoom = 14,

@@ -11,6 +11,7 @@ pub mod drill;
 pub mod image;
 pub mod kinds;
 pub mod ops;
+pub mod pieces;
 pub mod raw;
 pub mod readers;
 pub mod record;

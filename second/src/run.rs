@@ -20,10 +20,7 @@ pub const INPUT_LIMIT: usize = 1_048_576;
 /// run, and touches neither the record nor the answers.
 pub fn run(page: &mut Page, requests: &[u8], answers: &mut [u8]) -> Result<(), Refusal> {
     judge_run(page, requests.len(), answers.len())?;
-    let lines = answers.chunks_exact_mut(RECORD);
-    for (request, line) in requests.chunks_exact(RECORD).zip(lines) {
-        line.copy_from_slice(&answer_bytes(&answer_line(page, request)));
-    }
+    answer_lines(page, requests, answers);
     Ok(())
 }
 
@@ -38,6 +35,14 @@ pub fn judge_run(page: &Page, length: usize, room: usize) -> Result<(), Refusal>
         Err(Refusal::NoRoom)
     } else {
         Ok(())
+    }
+}
+
+/// Answers whole requests one after the other, into lines that there is room for.
+pub fn answer_lines(page: &mut Page, requests: &[u8], answers: &mut [u8]) {
+    let lines = answers.chunks_exact_mut(RECORD);
+    for (request, line) in requests.chunks_exact(RECORD).zip(lines) {
+        line.copy_from_slice(&answer_bytes(&answer_line(page, request)));
     }
 }
 

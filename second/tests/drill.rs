@@ -124,8 +124,8 @@ fn a_payload_may_have_65536_bytes_and_no_more() {
 }
 
 #[test]
-fn only_operations_1_to_9_are_listed() {
-    for number in (0..=255).filter(|number| !(1..=9).contains(number)) {
+fn only_operations_1_to_12_are_listed() {
+    for number in (0..=255).filter(|number| !(1..=12).contains(number)) {
         ends(&op(number, 0, &[]));
         ends(&op(number, 16, &ask(19, 0, 0, 0)));
     }

@@ -15,6 +15,7 @@ use second::ops::ends::{end_of, End, ENDS};
 use second::ops::pages::{main_pages, more_pages, without_meaning};
 use second::ops::removals::REMOVALS;
 use second::ops::{stream, Plan, REQUESTS};
+use second::pieces::Carry;
 use second::raw::{read_raw, write_raw};
 use second::record::{
     census, exc_state_invariants, flag_invariant, limits, loading_state_invariants,
@@ -51,8 +52,8 @@ fn a_stream_is_made_the_same_again() {
 #[test]
 fn the_first_stream_is_small() {
     let stream = short(1);
-    assert!((80_000..=208_000).contains(&stream.len()));
-    assert!(answers(&stream).len() <= 327_000);
+    assert!((80_000..=275_200).contains(&stream.len()));
+    assert!(answers(&stream).len() <= 464_500);
 }
 
 #[test]
@@ -78,6 +79,9 @@ struct Seen {
     numbers: [BTreeSet<u8>; 3],
     /// The numbers that were given to runs as a whole.
     runs: BTreeSet<u8>,
+    /// The numbers that were given to pieces as a whole, and where they ended.
+    pieces: BTreeSet<u8>,
+    finished: BTreeSet<u8>,
     /// The numbers that were given where a request was written back.
     written: BTreeSet<u8>,
     /// The numbers that were given to raw pages.
@@ -148,6 +152,8 @@ impl Seen {
             7 => _ = self.raw.insert(written[0]),
             8 => self.read(written[0], page),
             9 => self.wrote(written[0], operation.a, page),
+            10 => _ = self.pieces.insert(written[0]),
+            11 => _ = self.finished.insert(written[0]),
             _ => (),
         }
     }
@@ -229,7 +235,9 @@ fn everything(seen: &Seen) {
     let rules: BTreeSet<_> = (0..=8).map(|rule| (u8::from(rule > 0), rule)).collect();
     assert_eq!(seen.rules, rules);
     assert_eq!(seen.flags, set(0..=10));
-    assert_eq!(seen.operations, set(1..=9));
+    assert_eq!(seen.operations, set(1..=12));
+    assert_eq!(seen.pieces, set([0, 1, 12, 13, 14]));
+    assert_eq!(seen.finished, set([0, 12]));
     for holders in [&seen.holders, &seen.kept.holders] {
         assert!(HOLDERS.iter().all(|&holder| holders.contains(holder)));
     }
@@ -832,6 +840,241 @@ fn a_long_stream_has_readers_that_leave_a_full_list() {
     }
 }
 
+/// What a stream has of pieces.
+#[derive(Default)]
+struct Pieces {
+    /// The bytes that were carried to each accepted piece, and those that it had.
+    lengths: BTreeSet<(usize, usize)>,
+    /// The room beyond what an accepted piece needs, and what is missing where 14
+    /// refuses; whether that is all of it, too.
+    spare: BTreeSet<usize>,
+    missing: BTreeSet<(usize, bool)>,
+    /// All grounds that each refused piece had, and where a look came next.
+    grounds: BTreeSet<Vec<u8>>,
+    looked: BTreeSet<Vec<u8>>,
+    /// The lengths of pieces that 13 refuses.
+    too_long: BTreeSet<usize>,
+    /// The numbers that were given at the end, and whether the page was sound.
+    finished: BTreeSet<(u8, bool)>,
+    /// The carries that were set and then finished and taken: their length, and the
+    /// one place that is not zero, if just one is not.
+    set: BTreeSet<(usize, Option<usize>)>,
+    payloads: BTreeSet<usize>,
+    /// The operations between two pieces while something was carried.
+    between: BTreeSet<u8>,
+    /// The most requests in pieces with no other page or carry in between.
+    most: usize,
+    /// The steps that were accepted in pieces, and the numbers that requests had.
+    accepted: BTreeSet<u8>,
+    numbers: BTreeSet<u8>,
+}
+
+impl Pieces {
+    fn of(streams: impl Iterator<Item = Vec<u8>>) -> Pieces {
+        let mut seen = Pieces::default();
+        for stream in streams {
+            seen.follow(&operations(&stream).0);
+            for walk in walks(&stream) {
+                seen.asked(&walk.asked);
+            }
+        }
+        seen
+    }
+
+    fn follow(&mut self, operations: &[Operation]) {
+        let mut drill = Drill::start();
+        let mut requests = 0;
+        for (place, operation) in operations.iter().enumerate() {
+            let (page, carry) = (drill.page().clone(), *drill.carry());
+            let written = drill.perform(operation).unwrap();
+            let number = written[0];
+            let next = operations[place + 1..].iter().take(2);
+            let next: Vec<u8> = next.map(|next| next.number).collect();
+            match operation.number {
+                1 | 7 | 8 => requests = 0,
+                10 if number == 0 => {
+                    requests += self.taken(&carry, operation);
+                    self.most = self.most.max(requests);
+                }
+                10 => self.refused(&page, &carry, operation, next.first() == Some(&6)),
+                11 => _ = self.finished.insert((number, sound(&page))),
+                12 => {
+                    requests = 0;
+                    self.payloads.insert(operation.payload.len());
+                    if next == [11, 10] {
+                        self.carry_set(drill.carry());
+                    }
+                }
+                _ => (),
+            }
+            if operation.number < 10 && carry.len > 0 && next.first() == Some(&10) {
+                self.between.insert(operation.number);
+            }
+        }
+    }
+
+    /// Tells how many requests were whole.
+    fn taken(&mut self, carry: &Carry, operation: &Operation) -> usize {
+        let length = operation.payload.len();
+        let whole = (carry.len + length) / 16;
+        self.lengths.insert((carry.len, length));
+        self.spare.insert(operation.a as usize - whole * 16);
+        whole
+    }
+
+    fn refused(&mut self, page: &Page, carry: &Carry, operation: &Operation, looked: bool) {
+        let length = operation.payload.len();
+        let needed = (carry.len + length) / 16 * 16;
+        let missing = needed.saturating_sub(operation.a as usize);
+        let bad = carry.len > 15 || carry.bytes[carry.len..].iter().any(|&byte| byte > 0);
+        let grounds: Vec<u8> = [
+            (1, !sound(page)),
+            (12, bad),
+            (13, length > 4_096),
+            (14, missing > 0),
+        ]
+        .into_iter()
+        .filter_map(|(number, holds)| holds.then_some(number))
+        .collect();
+        if grounds[0] == 13 {
+            self.too_long.insert(length);
+        }
+        if grounds == [14] {
+            self.missing.insert((missing, missing == needed));
+        }
+        if looked {
+            self.looked.insert(grounds.clone());
+        }
+        self.grounds.insert(grounds);
+    }
+
+    fn carry_set(&mut self, carry: &Carry) {
+        let mut places = (0..15).filter(|&place| carry.bytes[place] > 0);
+        let first = places.next();
+        if places.next().is_none() {
+            self.set.insert((carry.len, first));
+        }
+    }
+
+    fn asked(&mut self, walk: &[Asked]) {
+        for asked in walk.iter().filter(|asked| asked.operation == 10) {
+            self.numbers.insert(answer_number(&asked.answer));
+            if asked.answer.is_ok() {
+                self.accepted.insert(asked.bytes[0]);
+            }
+        }
+    }
+}
+
+/// Every ground of a refused piece, and every two.
+const GROUNDS: [&[u8]; 10] = [
+    &[1],
+    &[12],
+    &[13],
+    &[14],
+    &[1, 12],
+    &[1, 13],
+    &[1, 14],
+    &[12, 13],
+    &[12, 14],
+    &[13, 14],
+];
+
+#[test]
+fn every_stream_takes_pieces_of_every_kind() {
+    for seed in 1..=40 {
+        let seen = Pieces::of([short(seed)].into_iter());
+        let lengths: BTreeSet<usize> = seen.lengths.iter().map(|taken| taken.1).collect();
+        for length in [0, 1, 2, 15, 16, 17, 33, 4_095, 4_096] {
+            assert!(lengths.contains(&length), "seed {seed}: {length}");
+        }
+        assert!(seen.lengths.contains(&(15, 4_096)), "seed {seed}");
+        for grounds in GROUNDS {
+            assert!(seen.looked.contains(grounds), "seed {seed}: {grounds:?}");
+        }
+        for length in [4_097, 4_112] {
+            assert!(seen.too_long.contains(&length), "seed {seed}: {length}");
+        }
+        for more in [0, 1, 15, 16, 40] {
+            assert!(seen.spare.contains(&more), "seed {seed}: {more}");
+        }
+        for less in [(1, false), (16, false), (16, true), (32, true)] {
+            assert!(seen.missing.contains(&less), "seed {seed}: {less:?}");
+        }
+        for sound in [false, true] {
+            for number in [0, 12] {
+                let finished = (number, sound);
+                assert!(
+                    seen.finished.contains(&finished),
+                    "seed {seed}: {finished:?}"
+                );
+            }
+        }
+        for number in 1..=9 {
+            assert!(seen.between.contains(&number), "seed {seed}: {number}");
+        }
+        assert!(seen.most > 2_048, "seed {seed}: {}", seen.most);
+        assert!(
+            seen.accepted.len() >= 14,
+            "seed {seed}: {:?}",
+            seen.accepted
+        );
+        let numbers = set([0, 3, 5, 6, 7, 8, 9, 17]);
+        assert!(seen.numbers.is_superset(&numbers), "seed {seed}");
+    }
+}
+
+#[test]
+fn every_stream_sets_carries_of_every_kind() {
+    for seed in 1..=40 {
+        let seen = Pieces::of([short(seed)].into_iter());
+        let has = |length: usize, place: Option<usize>| {
+            let set = (length, place);
+            assert!(seen.set.contains(&set), "seed {seed}: {set:?}");
+        };
+        for length in (0..=17).chain([255]) {
+            has(length, None);
+            has(length, Some(14));
+        }
+        for place in 0..15 {
+            has(0, Some(place));
+            has(place, Some(place));
+            has(place + 1, Some(place));
+        }
+        for length in (0..=17).chain([40]) {
+            assert!(seen.payloads.contains(&length), "seed {seed}: {length}");
+        }
+    }
+}
+
+#[test]
+fn forty_streams_and_a_long_one_have_everything_in_pieces() {
+    for seen in [
+        Pieces::of((1..=40).map(short)),
+        Pieces::of([long(2)].into_iter()),
+    ] {
+        assert_eq!(seen.accepted, set(1..=30));
+        let numbers = set([0, 2, 3, 4, 5, 6, 7, 8, 9, 17]);
+        assert!(seen.numbers.is_superset(&numbers), "{:?}", seen.numbers);
+        let carried: BTreeSet<usize> = seen.lengths.iter().map(|taken| taken.0).collect();
+        assert_eq!(carried, (0..=15).collect());
+    }
+    let seen = Pieces::of([long(3)].into_iter());
+    for carried in 0..=15 {
+        for length in [0, 1, 2, 15, 16, 17, 31, 32, 33] {
+            let taken = (carried, length);
+            assert!(seen.lengths.contains(&taken), "{taken:?}");
+        }
+    }
+    for length in (0..=17).chain([255]) {
+        for place in 0..15 {
+            assert!(seen.set.contains(&(length, Some(place))));
+        }
+    }
+    assert!(seen.numbers.is_superset(&set([10, 11])));
+    assert_eq!(seen.grounds.len(), 15);
+}
+
 /// The lengths of runs, of payloads and of buffers that are at a limit.
 #[test]
 fn a_long_stream_has_what_is_expensive() {
@@ -848,7 +1091,12 @@ fn a_long_stream_has_what_is_expensive() {
     for length in [0, 1, 1_087, 1_088, 1_089, 2_176, 65_536] {
         assert!(has(8, length), "{length}");
     }
-    for number in [4, 5, 9] {
+    for length in [
+        0, 1, 4_095, 4_096, 4_097, 4_112, 8_192, 32_768, 65_535, 65_536,
+    ] {
+        assert!(has(10, length), "{length}");
+    }
+    for number in [4, 5, 9, 10] {
         let large: BTreeSet<u64> = (1..=15)
             .flat_map(|seed| common::operations(&short(seed)).0)
             .filter(|operation| operation.number == number)

@@ -53,6 +53,7 @@ use Rattle.image.specs.Keeping.{readVerdict, restoredAs, restoredFrom}
 use Rattle.demands.specs.History.{Event, event, after, lineEvent, runHistory, Given, added, accepted}
 use Rattle.demands.specs.Clean.{Asking, requests, lines, left, NoneBack, FirstBack, CleanMeansClean, CleanFirst, Clean, linesIn}
 use Rattle.demands.specs.Clean.{allLines, AsLines}
+use Rattle.demands.proofs.Lines.{history-append}
 
 -- ---- what is accepted
 module _ (p : Page) (q : Request) where
@@ -337,13 +338,13 @@ pub left-after : (p : Page) (qs : List Request) → left requests p qs ≡ after
 left-after p [] = refl
 left-after p (q ∷ qs) = left-after (stepOf p q .page) qs
 
+after-left : (p : Page) (rs : List (List ℕ)) → pageAfter p rs ≡ left lines p rs
+after-left p [] = refl
+after-left p (r ∷ rs) = after-left (turnOf p r .page) rs
+
 -- a run's page and history are those of its lines, and lines may be cut anywhere
 run-page : (p : Page) (requests : List ℕ) (v : Verdict) → ends p requests v .page ≡ left lines p (linesIn requests v)
 run-page p requests Verdict.Passed = after-left p (requestsOf requests)
-  where
-    after-left : (p : Page) (rs : List (List ℕ)) → pageAfter p rs ≡ left lines p rs
-    after-left p [] = refl
-    after-left p (r ∷ rs) = after-left (turnOf p r .page) rs
 run-page p requests (Verdict.Failed why) = refl
 
 run-added : (p : Page) (requests : List ℕ) (past : List Event) (v : Verdict)
@@ -354,11 +355,6 @@ run-added p requests past (Verdict.Failed why) = refl
 left-append : (p : Page) (xs ys : List (List ℕ)) → left lines p (xs ++ ys) ≡ left lines (left lines p xs) ys
 left-append p [] ys = refl
 left-append p (x ∷ xs) ys = left-append (turnOf p x .page) xs ys
-
-history-append : (p : Page) (xs ys : List (List ℕ)) (past : List Event)
-    → runHistory p (xs ++ ys) past ≡ runHistory (left lines p xs) ys (runHistory p xs past)
-history-append p [] ys past = refl
-history-append p (x ∷ xs) ys past = history-append (turnOf p x .page) xs ys (lineEvent p x ∷ past)
 
 pub as-lines : (p : Page) (gs : List Given) → AsLines p gs
 unfolding ranOf
@@ -378,5 +374,6 @@ as-lines p (g ∷ gs) =
           rest .history (added p (g .requests) past v)
           ∙ ap (λ (x : Page). runHistory x (allLines next gs) (added p (g .requests) past v)) ended
           ∙ ap (runHistory (left lines p now) (allLines next gs)) (run-added p (g .requests) past v)
+          ∙ ap (λ (x : Page). runHistory x (allLines next gs) (runHistory p now past)) (sym (after-left p now))
           ∙ sym (history-append p now (allLines next gs) past);
     }

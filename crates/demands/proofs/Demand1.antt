@@ -4,9 +4,10 @@
 use Prim.Native.Nat.{ℕ, _*_, _/_, _<_}
 use mathlib.Core.Path.{_≡_, refl, sym, ap, _∙_}
 use mathlib.Core.Logic.{_↔_}
-use mathlib.Core.Bool.{Bool, true, false, true≢false}
+use mathlib.Core.Bool.{Bool, false, true≢false}
 use mathlib.Core.List.{List}
 use native.Mathlib.Omega.{arith}
+use lib.Dec.{T}
 use lib.ListN.{length, take, drop, length-drop}
 use lib.Seq.{length-take-le}
 use Rattle.laws.specs.Tables.{firstApplying, appliesIn}
@@ -110,15 +111,17 @@ refused-turn p bytes why refused = go (readOf bytes) refl
 length-line-at : (requests : List ℕ) (k : ℕ) → k < length requests / lineSize → length (lineAt k requests) ≡ lineSize
 length-line-at requests k h = length-take-le lineSize (drop (lineSize * k) requests) (simp length-drop (omega arith))
 
+-- lines that are answered from a sound page on are answered by the lowest number that applies
+pub line-first : (p : Page) (requests : List ℕ) → T (soundOf p) → (k : ℕ) → k < length requests / lineSize
+    → answerNumber (turnOf (pageAt k p requests) (lineAt k requests) .answer)
+    ≡ firstApplying (applyingLine (pageAt k p requests) (lineAt k requests))
+line-first p requests sound k h =
+    let here = to-true (soundOf (pageAt k p requests)) (run-keeps p (take k (requestsOf requests)) sound) in
+    line-number (pageAt k p requests) (lineAt k requests) here (length-line-at requests k h)
+
 module _ (p : Page) (requests answers : List ℕ) where
-  -- an accepted run's lines are answered from sound pages, by the lowest number that applies
-  line-first : ranOf p requests answers .answer ≡ Answer.Accepted → (k : ℕ) → k < length requests / lineSize
-      → answerNumber (turnOf (pageAt k p requests) (lineAt k requests) .answer)
-      ≡ firstApplying (applyingLine (pageAt k p requests) (lineAt k requests))
-  line-first e k h =
-      let start = is-true (accepted-has p requests answers e .sound) in
-      let here = to-true (soundOf (pageAt k p requests)) (run-keeps p (take k (requestsOf requests)) start) in
-      line-number (pageAt k p requests) (lineAt k requests) here (length-line-at requests k h)
+  sound-start : ranOf p requests answers .answer ≡ Answer.Accepted → T (soundOf p)
+  sound-start e = is-true (accepted-has p requests answers e .sound)
 
   pub demand1-run : Demand1Run p requests answers
   demand1-run = record {
@@ -130,8 +133,9 @@ module _ (p : Page) (requests answers : List ℕ) where
         (ap (λ (o : Outcome). o .page) (r .0), r .1);
     lines = line-at p requests answers;
     line = λ e k h n j.
-        rw (line-first e k h) (first-lowest (applyingLine (pageAt k p requests) (lineAt k requests)) tt n j);
-    line-accepted = λ e k h. rw (line-first e k h) (first-none (applyingLine (pageAt k p requests) (lineAt k requests)) tt);
+        rw (line-first p requests (sound-start e) k h) (first-lowest (applyingLine (pageAt k p requests) (lineAt k requests)) tt n j);
+    line-accepted = λ e k h.
+        rw (line-first p requests (sound-start e) k h) (first-none (applyingLine (pageAt k p requests) (lineAt k requests)) tt);
     next = page-next p requests;
     refused-line = λ k h why e. page-next p requests k h ∙ refused-turn (pageAt k p requests) (lineAt k requests) why e;
     page = λ e. page-end p requests answers e ∙ sym (page-all p requests);

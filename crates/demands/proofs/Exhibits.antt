@@ -30,10 +30,13 @@ use Rattle.image.specs.Decoding.{u64At, excFromBytes, headFrom, readerFrom, rea
 use Rattle.image.specs.Keeping.{isImage, readVerdict, restoredFrom}
 use Rattle.image.specs.Samples.{editingClean, value}
 use Rattle.replay.specs.Run.{runVerdict}
+use Rattle.pieces.specs.Carries.{isValid, finishOf}
+use Rattle.pieces.specs.Pieces.{pieceVerdict}
 use Rattle.demands.specs.Cases.{plain, put}
 use Rattle.demands.specs.Clean.{requests, CleanTaking, FirstBack}
 use Rattle.demands.specs.Exhibits.{exhibited, flags, shown, holders, everyStepTaken, breakEach, brokenPages}
 use Rattle.demands.specs.Exhibits.{answered, trials, mayAnswer, everyReturnShown, everyPutBackShown, wholeNumbers, refusesRightly}
+use Rattle.demands.specs.Exhibits.{pieceNumbers, endNumbers}
 use Rattle.demands.specs.Exhibits.{premises, resumes, resumed, looked, meanwhile}
 
 -- a sound record for each of the eleven flags
@@ -65,6 +68,11 @@ numbers-exhibited = tt
 pub runs-exhibited : wholeNumbers ≡ 12 ∷ 13 ∷ 14 ∷ 0 ∷ 0 ∷ 0 ∷ []
 unfolding runVerdict soundOf lowestBroken noReaders freshPage
 runs-exhibited = refl
+
+-- 1, 12, 13, 14 and 0 to a piece, and 0 and 12 at the end
+pub pieces-exhibited : (pieceNumbers ≡ 1 ∷ 12 ∷ 12 ∷ 13 ∷ 14 ∷ 0 ∷ 0 ∷ 0 ∷ []) × (endNumbers ≡ 0 ∷ 12 ∷ 12 ∷ [])
+unfolding pieceVerdict isValid finishOf soundOf lowestBroken noReaders freshPage
+pieces-exhibited = (refl, refl)
 
 -- 25 to 30: each is accepted, and gives each number that it can
 pub returns-exhibited : T everyReturnShown

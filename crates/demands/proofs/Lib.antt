@@ -13,3 +13,4 @@ pub mod Exhibits
 pub mod NoSecond
 pub mod Order
 pub mod Lists
+pub mod Pieces

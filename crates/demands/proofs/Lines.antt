@@ -51,6 +51,12 @@ run-tells start p past [] sound told = told
 run-tells start p past (r ∷ rs) sound told =
     run-tells start (turnOf p r .page) (lineEvent p r ∷ past) rs (turn-keeps p r sound) (turn-tells p r start past sound told)
 
+-- lines in two parts make the second's history of the first's
+pub history-append : (p : Page) (before after : List (List ℕ)) (past : List Event)
+    → runHistory p (before ++ after) past ≡ runHistory (pageAfter p before) after (runHistory p before past)
+history-append p [] after past = refl
+history-append p (r ∷ before) after past = history-append (turnOf p r .page) before after (lineEvent p r ∷ past)
+
 -- the history's lines are the run's
 lines-from : (p : Page) (rs : List (List ℕ)) (past : List Event) → answerLines (runHistory p rs past)
     ≡ answerLines past ++ linesOf p rs
@@ -67,13 +73,13 @@ lines-told p requests answers accepted =
     answers-are p requests answers accepted
     ∙ ap (λ (l : List ℕ). l ++ drop (length requests) answers) (sym (lines-from p (requestsOf requests) []))
 
--- after a run, however it was judged, the page is sound and the history tells of it
+-- after a run, however it was judged, the page is sound and the history tells of it (and so after a piece: proofs/Pieces.antt)
 module _ (start : Start) (p : Page) (past : List Event) (requests : List ℕ) where
-  ended-sound : T (soundOf p) → (v : Verdict) → T (soundOf (ends p requests v .page))
+  pub ended-sound : T (soundOf p) → (v : Verdict) → T (soundOf (ends p requests v .page))
   ended-sound sound Verdict.Passed = run-keeps p (requestsOf requests) sound
   ended-sound sound (Verdict.Failed why) = sound
 
-  ended-told : T (soundOf p) → ToldOf start (headOf p) past → (v : Verdict)
+  pub ended-told : T (soundOf p) → ToldOf start (headOf p) past → (v : Verdict)
       → ToldOf start (headOf (ends p requests v .page)) (added p requests past v)
   ended-told sound told Verdict.Passed = run-tells start p past (requestsOf requests) sound told
   ended-told sound told (Verdict.Failed why) = told

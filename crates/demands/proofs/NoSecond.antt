@@ -136,6 +136,7 @@ use Rattle.lock.specs.Step.{stepOf}
 use Rattle.lock.proofs.step.Reads as step-contract
 use Rattle.lock.proofs.apply as apply-contract
 use Rattle.lock.proofs.lend.Reads as lend-contract
+use Rattle.wire.proofs.is_blank.Reads as is-blank-contract
 use Rattle.wire.proofs.read_u64.Reads as read-u64-contract
 use Rattle.wire.proofs.read.Reads as read-contract
 use Rattle.wire.proofs.write_u64.Reads as write-u64-contract
@@ -147,6 +148,9 @@ use Rattle.image.proofs.read.Reads as read-image-contract
 use Rattle.image.proofs.write.Reads as write-image-contract
 use Rattle.replay.proofs.run.Reads as run-contract
 use Rattle.replay.proofs.reply.Reads as reply-contract
+use Rattle.pieces.proofs.empty.Reads as empty-carry-contract
+use Rattle.pieces.proofs.take.Reads as take-contract
+use Rattle.pieces.proofs.finish.Reads as finish-contract
 
 -- ---- what is stated
 -- a contract says of the lifetimes, the arguments at entry, the result and the arguments at exit whether they meet it
@@ -561,6 +565,9 @@ pub lend : AtMostOne lend-contract.Post
 lend = equation _
 
 -- ---- wire
+pub is-blank : AtMostOne is-blank-contract.Post
+is-blank = equation _
+
 pub read-u64 : AtMostOne read-u64-contract.Post
 read-u64 = equation _
 
@@ -595,3 +602,13 @@ run = equations (λ o. o .1 .1 .0 .now) _ _
 
 pub reply : AtMostOneWith (λ o. o .1 .1 .0 .now) reply-contract.Post
 reply = equations (λ o. o .1 .1 .0 .now) _ _
+
+-- ---- pieces
+pub empty-carry : AtMostOne empty-carry-contract.Post
+empty-carry = equation _
+
+pub take : AtMostOneWith (λ o. o .1 .1 .1 .0 .now) take-contract.Post
+take = equations (λ o. o .1 .1 .1 .0 .now) _ _
+
+pub finish : AtMostOne finish-contract.Post
+finish = equation _

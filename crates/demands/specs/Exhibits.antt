@@ -1,7 +1,7 @@
 -- What shows that no statement is empty: a sound record for each flag and each kind of holder, each step accepted somewhere, each rule
--- broken alone somewhere, pages that were read and go on, each number given somewhere (15 and 16 by the samples of `image`), each
--- number that 25 to 30 can answer by each of them, and what a clean editor and a dirty one may put in. Last, where soundness and
--- demand 3 see nothing, under which flags a flag premise refuses.
+-- broken alone somewhere, pages that were read and go on, each number given somewhere (15 and 16 by the samples of `image`; those of a
+-- run and of a piece apart), each number that 25 to 30 can answer by each of them, and what a clean editor and a dirty one may put in.
+-- Last, where soundness and demand 3 see nothing, under which flags a flag premise refuses.
 use Prim.Native.Nat.{ℕ, zero, suc, _+_, _-_, _*_, _/_}
 use mathlib.Core.Bool.{Bool, true, false, not, cond, _&&_, Bool·beq}
 use mathlib.Core.List.{List, [], _∷_, _++_, map}
@@ -27,6 +27,9 @@ use Rattle.lock.specs.Words.{puttingBack}
 use Rattle.lock.specs.Step.{stepOf}
 use Rattle.wire.specs.Buffers.{answerFor}
 use Rattle.replay.specs.Run.{runVerdict}
+use Rattle.pieces.specs.declared.Carry.{Carry}
+use Rattle.pieces.specs.Carries.{finishOf}
+use Rattle.pieces.specs.Pieces.{pieceSize, pieceVerdict}
 use Rattle.image.specs.Keeping.{restoredFrom}
 use Rattle.image.specs.Samples.{Sample, claim, editing, editingClean, counted, loading, prefetch, value}
 use Rattle.demands.specs.History.{after, history, startOf, departures, lastWithdrew}
@@ -305,6 +308,29 @@ wholeNumbers =
     ∷ runVerdict (freshPage 0) 32 32
     ∷ runVerdict (freshPage 0) (lineSize * mostRequests) (lineSize * mostRequests)
     ∷ [])
+
+-- those of a piece: of a page that is not sound, whatever else is wrong; a carry that claims 16 bytes, before a piece of 4,097, and one of
+-- length 0 with a byte set; a piece of 4,097; one byte that makes a request whole, and 15 bytes for its answer. With 16 it is accepted, as
+-- are one of 4,096 after 15 and one of none
+abbrev pub claims : ℕ → ℕ → Carry
+claims len first = record { bytes = first ∷ replicate 14 0; len = len }
+
+abbrev pub pieceNumbers : List ℕ
+pieceNumbers =
+    map (λ (v : Verdict). answerNumber (answerFor v))
+    (pieceVerdict lost (claims 16 0) (pieceSize + 1) 0
+    ∷ pieceVerdict (freshPage 0) (claims 16 0) (pieceSize + 1) 0
+    ∷ pieceVerdict (freshPage 0) (claims 0 1) 0 0
+    ∷ pieceVerdict (freshPage 0) (claims 0 0) (pieceSize + 1) 0
+    ∷ pieceVerdict (freshPage 0) (claims 15 7) 1 15
+    ∷ pieceVerdict (freshPage 0) (claims 15 7) 1 16
+    ∷ pieceVerdict (freshPage 0) (claims 15 7) pieceSize pieceSize
+    ∷ pieceVerdict (freshPage 0) (claims 0 0) 0 0
+    ∷ [])
+
+-- and of the end: an empty carry; one of length 0 with a byte set; one of length 1 that is zero
+abbrev pub endNumbers : List ℕ
+endNumbers = map (λ (c : Carry). answerNumber (finishOf c)) (claims 0 0 ∷ claims 0 1 ∷ claims 1 0 ∷ [])
 
 -- ---- what is given back
 -- a full list, and a claim at bucket 0 beside it

@@ -9,3 +9,4 @@ pub mod Cases
 pub mod Exhibits
 pub mod Order
 pub mod Lists
+pub mod Pieces

@@ -9,7 +9,7 @@ use kinds::LINE;
 use libc::STDIN_FILENO;
 
 // The number of the last operation that is listed.
-const LAST: u64 = 9;
+const LAST: u64 = 12;
 
 // What stands for an operation where the input ended.
 const ENDED: u64 = 0;

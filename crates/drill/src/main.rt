@@ -11,7 +11,9 @@ use input::next;
 use libc::STDOUT_FILENO;
 use lines::NO_MEANING;
 use lines::line;
+use lines::say;
 use look::look;
+use ops::carry_from;
 use ops::fill;
 use ops::keep;
 use ops::lend;
@@ -19,15 +21,17 @@ use ops::put;
 use ops::restore;
 use ops::run;
 use ops::step;
+use ops::take;
 use ops::write;
 
 // The most bytes that are read in all.
 const LIMIT: usize = 16_777_216;
 
 // One operation a turn, by its number; 0 is the end of the input, and what is not listed has no meaning. An operation writes
-// its line itself, and its buffer is written after it.
+// its line itself, and what else it has; its buffer is written last.
 fn main() {
     let mut page = page_record::fresh(0);
+    let mut carry = pieces::empty();
     let mut payload = io::large_buffer();
     let mut space = io::large_buffer();
     let mut left = LIMIT;
@@ -53,6 +57,13 @@ fn main() {
             7 => page = put(page, bytes),
             8 => page = restore(bytes),
             9 => keep(page, buffer),
+            10 => {
+                let taken = take(page, carry, bytes, buffer);
+                page = taken.page;
+                carry = taken.carry;
+            }
+            11 => say(pieces::finish(carry)),
+            12 => carry = carry_from(bytes),
             _ => line(NO_MEANING),
         }
         io::write_all(STDOUT_FILENO, buffer);

@@ -9,13 +9,17 @@ use crate::lines::line;
 use crate::lines::say;
 use crate::raw::is_known;
 use kinds::Bucket;
+use libc::STDOUT_FILENO;
 use lock::Outcome;
 use page_record::Page;
+use pieces::CARRY;
+use pieces::Carry;
+use pieces::Taken;
 use requests::Answer;
 use requests::Request;
 use wire::Reading;
 
-// The operation whose buffer takes answers.
+// The operation whose buffer takes the answers of a run.
 const RUN: u64 = 4;
 
 // The operation whose buffer takes a request.
@@ -23,6 +27,9 @@ const WRITE: u64 = 5;
 
 // The operation whose buffer takes an image.
 const KEEP: u64 = 9;
+
+// The operation whose buffer takes the answers of a piece.
+const TAKE: u64 = 10;
 
 // The number of no step.
 const NO_STEP: u8 = 0;
@@ -34,7 +41,7 @@ const FILLING: u8 = 170;
 pub fn fill(kind: u64, a: u64, space: &mut [u8]) -> usize
     ensures { λ r. ⌜ r ≤ length (now (space .exit)) ⌝ }
 {
-    if (kind != RUN) & (kind != WRITE) & (kind != KEEP) {
+    if (kind != RUN) & (kind != WRITE) & (kind != KEEP) & (kind != TAKE) {
         return 0;
     }
     let mut n: usize = 0;
@@ -130,4 +137,35 @@ pub fn restore(payload: &[u8]) -> Page {
 // Operation 9: the page's image.
 pub fn keep(page: Page, buffer: &mut [u8]) {
     say(image::write(page, buffer));
+}
+
+// A carry in sixteen bytes: its length, and its fifteen.
+fn show(carry: Carry) {
+    let len = [(carry.len % 256) as u8];
+    let bytes = carry.bytes;
+    io::write_all(STDOUT_FILENO, &len);
+    io::write_all(STDOUT_FILENO, &bytes);
+}
+
+// Operation 10: a piece.
+pub fn take(page: Page, carry: Carry, payload: &[u8], buffer: &mut [u8]) -> Taken {
+    let taken = pieces::take(page, carry, payload, buffer);
+    let answer = taken.answer;
+    let left = taken.carry;
+    say(answer);
+    show(left);
+    taken
+}
+
+// Operation 12: a carry as it stands.
+pub fn carry_from(payload: &[u8]) -> Carry {
+    line(0);
+    let mut bytes = [0u8; CARRY];
+    for i in 0..CARRY {
+        bytes[i] = byte_at(payload, i + 1);
+    }
+    Carry {
+        bytes,
+        len: byte_at(payload, 0) as usize,
+    }
 }

@@ -20,8 +20,8 @@ use Rattle.replay.proofs.Judged.{fit, verdict-accepted}
 use Rattle.replay.proofs.Pages.{length-requests, request-at}
 
 -- ---- the lines
--- requests in two parts are answered as the second after the first (`page-append` says the same of the page). Nothing rests on
--- it: it shows that a run may be cut into shorter ones
+-- requests in two parts are answered as the second after the first (`page-append` says the same of the page): so a run may be cut
+-- into shorter ones, and bytes into pieces
 pub lines-append : (page : Page) (before after : List (List ℕ))
     → linesOf page (before ++ after) ≡ linesOf page before ++ linesOf (pageAfter page before) after
 lines-append page [] after = refl

@@ -10,7 +10,7 @@ mod numbers;
 
 use kinds::Bucket;
 use kinds::LINE;
-use numbers::is_blank;
+pub use numbers::is_blank;
 pub use numbers::read_u64;
 pub use numbers::write_u64;
 use requests::Answer;

@@ -37,7 +37,7 @@ pub const ENDS: [End; 12] = [
     End::LongPayload,
     End::LongestPayload,
     End::Unlisted(0),
-    End::Unlisted(10),
+    End::Unlisted(13),
     End::Unlisted(21),
     End::Unlisted(255),
 ];

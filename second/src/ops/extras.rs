@@ -6,7 +6,7 @@ use super::stream::Stream;
 use super::Plan;
 
 /// The numbers that ask for the longest buffers.
-const LARGE: [u64; 5] = [65_535, 65_536, 65_537, 1 << 32, u64::MAX];
+pub const LARGE: [u64; 5] = [65_535, 65_536, 65_537, 1 << 32, u64::MAX];
 
 /// First what is not needed, then the longest buffers.
 pub fn play(stream: &mut Stream, random: &mut Random, plan: &Plan) {

@@ -1,8 +1,8 @@
 //! The generator of operations for the drill.
 //!
 //! What is drawn, scripted or damaged is decided here, once: a stream goes
-//! through scripts, wrong requests, runs, walks, raw pages and images, and ends
-//! by its seed. The same seed and size always give the same bytes.
+//! through scripts, wrong requests, runs, walks, raw pages, images and pieces, and
+//! ends by its seed. The same seed and size always give the same bytes.
 
 pub mod back;
 pub mod clean;
@@ -12,6 +12,7 @@ pub mod ends;
 pub mod extras;
 pub mod image;
 pub mod pages;
+pub mod pieces;
 pub mod random;
 pub mod removals;
 pub mod request;
@@ -83,6 +84,7 @@ pub fn stream(plan: &Plan) -> Vec<u8> {
     let walked = walks::play(&mut stream, &mut random, plan);
     pages::play(&mut stream, &mut random, plan, &walked);
     restarts::play(&mut stream, &mut random, plan, &walked);
+    pieces::play(&mut stream, &mut random, plan, &walked);
     ends::play(&mut stream, &mut random, plan);
     stream.bytes()
 }

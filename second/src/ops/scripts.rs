@@ -501,7 +501,7 @@ pub fn play_situations(stream: &mut Stream, random: &mut Random, plan: &Plan) {
 
 /// A good request of every step, at two buckets where it takes one, and with two
 /// values where an editor puts the page in.
-fn every_step() -> Vec<[u8; RECORD]> {
+pub fn every_step() -> Vec<[u8; RECORD]> {
     let mut requests = vec![step(6).clean(1).bytes()];
     requests.extend(DEPOSITS.map(|number| step(number).of(OTHER).bytes()));
     for number in 1..=30 {

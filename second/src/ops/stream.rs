@@ -3,6 +3,7 @@
 
 use super::request::{records, Draft};
 use crate::drill::{Drill, Operation};
+use crate::pieces::Carry;
 use crate::raw::{write_raw, IMAGE};
 use crate::record::Page;
 use crate::wire::RECORD;
@@ -28,6 +29,11 @@ impl Stream {
     /// The page as the operations so far leave it.
     pub fn page(&self) -> &Page {
         self.drill.page()
+    }
+
+    /// The carry as the operations so far leave it.
+    pub fn carry(&self) -> &Carry {
+        self.drill.carry()
     }
 
     /// The bytes, at the end.
@@ -113,6 +119,31 @@ impl Stream {
     /// The page's image written, with so much room.
     pub fn write_image(&mut self, room: usize) {
         self.push(9, room as u64, &[]);
+    }
+
+    /// A piece, with so much room for its answers.
+    pub fn piece(&mut self, piece: &[u8], room: usize) {
+        self.push(10, room as u64, piece);
+    }
+
+    /// A piece, with just the room that it needs after this carry.
+    pub fn piece_all(&mut self, piece: &[u8]) {
+        self.piece(piece, self.room_for(piece));
+    }
+
+    /// The room that a piece needs after this carry, which is valid.
+    pub fn room_for(&self, piece: &[u8]) -> usize {
+        (self.carry().len + piece.len()) / RECORD * RECORD
+    }
+
+    /// The end of the pieces so far; others may come.
+    pub fn finish_pieces(&mut self) {
+        self.push(11, 0, &[]);
+    }
+
+    /// A carry as it is written, or less of it, or more.
+    pub fn set_carry(&mut self, bytes: &[u8]) {
+        self.push(12, 0, bytes);
     }
 
     /// The page's image written, and read back: the same page goes on.

@@ -8,6 +8,7 @@ pub mod lists;
 
 use second::drill::{Drill, Operation};
 use second::kinds::{Answer, BucketId, Request, SharedState};
+use second::pieces::Carry;
 use second::record::Page;
 use second::run::answer_line;
 use second::wire::{answer_bytes, value_at};
@@ -26,7 +27,7 @@ pub fn operations(mut stream: &[u8]) -> (Vec<Operation>, &[u8]) {
 fn first_operation(stream: &[u8]) -> Option<(Operation, &[u8])> {
     let (head, rest) = stream.split_at_checked(16)?;
     let length = (value_at(head, 0) >> 32) as usize;
-    if !(1..=9).contains(&head[0]) || head[1..4] != [0; 3] || length > 65_536 {
+    if !(1..=12).contains(&head[0]) || head[1..4] != [0; 3] || length > 65_536 {
         return None;
     }
     let (payload, rest) = rest.split_at_checked(length)?;
@@ -46,8 +47,8 @@ pub struct Walk {
     pub asked: Vec<Asked>,
 }
 
-/// One request, single or in a run that was not refused as a whole, and its
-/// operation (2, 3 or 4).
+/// One request, single, in a run that was not refused as a whole or in a piece that
+/// was not, and its operation (2, 3, 4 or 10).
 pub struct Asked {
     pub operation: u8,
     pub before: Page,
@@ -63,6 +64,7 @@ pub fn walks(stream: &[u8]) -> Vec<Walk> {
     let mut walks = vec![start(1, drill.page())];
     for operation in operations(stream).0 {
         let mut page = drill.page().clone();
+        let carry = *drill.carry();
         let written = drill.perform(&operation).unwrap();
         let lines = match operation.number {
             1 | 7 | 8 => {
@@ -71,9 +73,10 @@ pub fn walks(stream: &[u8]) -> Vec<Walk> {
             }
             2 | 3 => &written[..],
             4 if written[0] == 0 => &written[16..],
+            10 if written[0] == 0 => &written[32..],
             _ => continue,
         };
-        let answered = answer(&mut page, &operation);
+        let answered = answer(&mut page, &carry, &operation);
         assert_eq!(&page, drill.page());
         for (asked, line) in answered.iter().zip(lines.chunks(16)) {
             assert_eq!(answer_bytes(&asked.answer), line);
@@ -92,11 +95,12 @@ fn start(origin: u8, page: &Page) -> Walk {
 }
 
 /// The operation's requests, one by one.
-fn answer(page: &mut Page, operation: &Operation) -> Vec<Asked> {
-    let single = operation.number != 4;
-    let length = if single { operation.payload.len() } else { 16 };
+fn answer(page: &mut Page, carry: &Carry, operation: &Operation) -> Vec<Asked> {
+    let asked = asked_bytes(carry, operation);
+    let single = matches!(operation.number, 2 | 3);
+    let length = if single { asked.len() } else { 16 };
     let mut answered = Vec::new();
-    for bytes in operation.payload.chunks(length.max(1)) {
+    for bytes in asked.chunks(length.max(1)) {
         let before = page.clone();
         let answer = answer_line(page, bytes);
         answered.push(Asked {
@@ -108,6 +112,17 @@ fn answer(page: &mut Page, operation: &Operation) -> Vec<Asked> {
         });
     }
     answered
+}
+
+/// The bytes that an operation asks with; in a piece those of the whole requests
+/// at hand.
+fn asked_bytes(carry: &Carry, operation: &Operation) -> Vec<u8> {
+    if operation.number != 10 {
+        return operation.payload.clone();
+    }
+    let mut at_hand = [&carry.bytes[..carry.len], &operation.payload].concat();
+    at_hand.truncate(at_hand.len() / 16 * 16);
+    at_hand
 }
 
 /// Whom the request takes off the list, if it is accepted.

@@ -8,10 +8,10 @@ use Rattle.drill.proofs.main.Statement.{statement}
 use Rattle.drill.proofs.main.Tie as tie
 
 abbrev Inv-loop : tie.InvT-loop
-Inv-loop page₀ payload₀ space₀ left₀ page payload space left = (length payload ≡ 65536) × (length space ≡ 65536)
+Inv-loop page₀ carry₀ payload₀ space₀ left₀ page carry payload space left = (length payload ≡ 65536) × (length space ≡ 65536)
 
 abbrev μ-loop : tie.MeasureT-loop
-μ-loop page₀ payload₀ space₀ left₀ page payload space left = left
+μ-loop page₀ carry₀ payload₀ space₀ left₀ page carry payload space left = left
 
 pub main-spec : {M : Type 1} → statement M
 main-spec =
@@ -20,6 +20,7 @@ main-spec =
     (λ c κs. tt)
     (λ c κs. tt)
     (λ c κs. tt)
+    (λ c κs. tt)
     (λ c. search needs)
     (λ c. search needs)
     (λ c κs. tt)
@@ -29,6 +30,10 @@ main-spec =
     (λ c. sym (length-take-le _ _ (search needs)))
     (λ c. search needs)
     (λ c. sym (length-take-le _ _ (search needs)))
+    (λ c κs. tt)
+    (λ c κs. tt)
+    (λ c κs. tt)
+    (λ c κs. tt)
     (λ c κs. tt)
     (λ c κs. tt)
     (λ c κs. tt)
@@ -47,5 +52,5 @@ main-spec =
     let f = joined .before .before .before .before .fill in
     let space = f .last .1 .1 .0 in
     let long : length space ≡ 65536 = search needs in
-    (search needs, length-front space (joined .match .buffer) (f .result) (c .buffer5 .given) ∙ long))
+    (search needs, length-front space (joined .match .buffer) (f .result) (c .buffer6 .given) ∙ long))
     (λ c. search needs))

@@ -1,0 +1,5 @@
+pub mod Joins
+pub mod Carries
+pub mod Judged
+pub mod Runs
+pub mod Least
