@@ -7,10 +7,17 @@ pub type StoredType = u64;
 pub const RC_WIDTH: u8 = 4;
 
 /// The highest count that a bucket may show.
-pub const CEILING: Count = Count(31);
+pub const CEILING: Count = Count(127);
 
 /// How many readers the list holds.
-pub const CAPACITY: usize = 64;
+pub const CAPACITY: usize = 256;
+
+/// The highest count that a bucket could show when images were short. Nothing but a
+/// short image is judged by it, nor by the next.
+pub const SHORT_CEILING: Count = Count(31);
+
+/// How many readers the list held then.
+pub const SHORT_CAPACITY: usize = 64;
 
 /// What the lock's word shows; the order gives the numbers 0 to 10.
 #[derive(Clone, Copy, Debug, PartialEq, Eq)]
@@ -87,7 +94,7 @@ impl Visited {
     }
 }
 
-/// How many references a bucket has; 0 to 31 in a sound record.
+/// How many references a bucket has; 0 to 127 in a sound record.
 #[derive(Clone, Copy, Debug, PartialEq, Eq)]
 pub struct Count(pub u8);
 
@@ -232,9 +239,9 @@ pub enum Refusal {
     WrongVisited = 8,
     /// Another count was found than the one expected.
     OtherCount = 9,
-    /// The count at the bucket is 31.
+    /// The count at the bucket is 127.
     CountFull = 10,
-    /// The list holds 64 readers.
+    /// The list holds 256 readers.
     ListFull = 11,
     /// The bytes are not whole records; a carry is not valid, or not empty at the end.
     NotWhole = 12,
@@ -242,9 +249,9 @@ pub enum Refusal {
     TooMany = 13,
     /// The answer space is too small.
     NoRoom = 14,
-    /// An image has not its length, or the buffer for one is too small.
+    /// An image has neither of the two lengths, or the buffer for one is too small.
     ImageLength = 15,
-    /// The bytes are not the image of a sound record.
+    /// The bytes are not the image of a sound record, nor a short one.
     NotImage = 16,
     /// The holder is clean, and the value is another than it keeps.
     OtherValue = 17,

@@ -41,6 +41,12 @@ const NO_BUCKET: u8 = 255;
 /// The page that these bytes say, or none where they have no meaning.
 pub fn read_raw(bytes: &[u8]) -> Option<Page> {
     let bytes: &[u8; IMAGE] = bytes.try_into().ok()?;
+    read_places(bytes)
+}
+
+/// The page that a head and some entries say, as far as they have a meaning. The
+/// places that get no entry are blank.
+pub fn read_places(bytes: &[u8]) -> Option<Page> {
     let storage_in = read_bit(bytes[place::STORAGE_IN])?;
     let clean = read_bit(bytes[place::CLEAN])?;
     let writeback_in = read_bit(bytes[place::WRITEBACK_IN])?;
@@ -72,7 +78,7 @@ fn read_bucket(byte: u8) -> Option<BucketId> {
 
 /// The outer none is a kind without meaning, the inner one nobody. Kind 4 has
 /// none: it was Obtained, without the value that was taken.
-fn read_exc_state(bytes: &[u8; IMAGE], clean: bool) -> Option<Option<ExcState>> {
+fn read_exc_state(bytes: &[u8], clean: bool) -> Option<Option<ExcState>> {
     let bucket = read_bucket(bytes[place::EXC_BUCKET]);
     let visited_count = Visited(bytes[place::VISITED]);
     let value = value_at(bytes, place::EXC_VALUE);
@@ -96,7 +102,7 @@ fn read_exc_state(bytes: &[u8; IMAGE], clean: bool) -> Option<Option<ExcState>> 
 }
 
 /// The outer none is a kind without meaning, the inner one nobody.
-fn read_loading_state(bytes: &[u8; IMAGE]) -> Option<Option<LoadingState>> {
+fn read_loading_state(bytes: &[u8]) -> Option<Option<LoadingState>> {
     let bucket = read_bucket(bytes[place::LOADER_BUCKET]);
     Some(match bytes[place::LOADER_KIND] {
         0 => None,
@@ -107,7 +113,7 @@ fn read_loading_state(bytes: &[u8; IMAGE]) -> Option<Option<LoadingState>> {
     })
 }
 
-fn read_readers(bytes: &[u8; IMAGE]) -> Option<Readers> {
+fn read_readers(bytes: &[u8]) -> Option<Readers> {
     let mut readers = Readers::none();
     readers.length = u16::from_le_bytes([bytes[place::LENGTH], bytes[place::LENGTH + 1]]);
     let lines = bytes[place::READERS..].chunks_exact(RECORD);
@@ -132,7 +138,7 @@ fn read_reader(line: &[u8]) -> Option<SharedState> {
 
 /// Every place whose byte says nothing: the gaps, and whatever the kinds that
 /// stand there do not have. It is passed over here, and an image has zero there.
-pub fn unlooked(bytes: &[u8; IMAGE]) -> Vec<usize> {
+pub fn unlooked(bytes: &[u8]) -> Vec<usize> {
     let exc_kind = bytes[place::EXC_KIND];
     let mut places: Vec<usize> = place::GAPS.into_iter().flatten().collect();
     let mut add = |unlooked: bool, from: usize, length: usize| {
@@ -144,7 +150,7 @@ pub fn unlooked(bytes: &[u8; IMAGE]) -> Vec<usize> {
     add(exc_kind != 3, place::VISITED, 1);
     add(exc_kind == 0, place::EXC_VALUE, 8);
     add(bytes[place::LOADER_KIND] < 2, place::LOADER_BUCKET, 1);
-    for entry in (place::READERS..IMAGE).step_by(RECORD) {
+    for entry in (place::READERS..bytes.len()).step_by(RECORD) {
         add(true, entry + 2, 6);
         add(bytes[entry] < 3, entry + 8, 8);
     }

@@ -271,9 +271,9 @@ fn fill(readers: [u8; 4]) -> Answer {
 
 #[test]
 fn i() {
-    assert_eq!(fill([31, 0, 0, 0]), Err(Refusal::CountFull));
-    assert_eq!(fill([16, 16, 16, 16]), Err(Refusal::ListFull));
-    assert_eq!(fill([31, 31, 2, 0]), Err(Refusal::CountFull));
+    assert_eq!(fill([127, 0, 0, 0]), Err(Refusal::CountFull));
+    assert_eq!(fill([64, 64, 64, 64]), Err(Refusal::ListFull));
+    assert_eq!(fill([127, 127, 2, 0]), Err(Refusal::CountFull));
 }
 
 #[test]
@@ -536,7 +536,7 @@ fn the_exact_lists() {
         assert_eq!(page.shared_state.listed(), list);
         let past = page.shared_state.past();
         assert!(past.iter().all(|&entry| entry == SharedState::BLANK));
-        let mut image = [170; 1_088];
+        let mut image = [170; 4_160];
         assert_eq!(write_image(&page, &mut image), Ok(()));
         let restored = read_image(&image);
         assert_eq!(restored.answer, Ok(None));

@@ -209,7 +209,7 @@ fn an_image_has_what_is_kept_at_byte_40() {
                     clean,
                     value,
                 });
-                let mut image = [170; 1_088];
+                let mut image = [170; 4_160];
                 assert_eq!(write_image(&page, &mut image), Ok(()));
                 assert_eq!(image[4], 5);
                 assert_eq!(image[40..48], value.to_le_bytes());
@@ -334,7 +334,7 @@ fn number_6_comes_before_17() {
         page(Flag::Claimed, claim(own), [0; 4]),
         page(Flag::ExcLockClean, visiting(own, 0, true), [0; 4]),
         page(Flag::ExcLockClean, visiting(own, 4, true), [0; 4]),
-        page(Flag::ExcLockClean, visiting(None, 4, true), [16; 4]),
+        page(Flag::ExcLockClean, visiting(None, 4, true), [64; 4]),
     ];
     for before in pages {
         assert!(sound(&before));
@@ -348,7 +348,7 @@ fn number_6_comes_before_17() {
 
 #[test]
 fn number_7_comes_before_17_and_11() {
-    for readers in [[0; 4], [16; 4]] {
+    for readers in [[0; 4], [64; 4]] {
         let before = editing(None, true, readers);
         for number in [9, 10] {
             for value in [VALUE, VALUE + 1] {
@@ -365,7 +365,7 @@ fn number_7_comes_before_17_and_11() {
 /// Only 9 asks for room.
 #[test]
 fn number_11_comes_before_17() {
-    for readers in [[16; 4], [31, 30, 3, 0]] {
+    for readers in [[64; 4], [127, 126, 3, 0]] {
         let full = editing(Some(BucketId(1)), true, readers);
         for value in [VALUE, VALUE + 1] {
             assert_eq!(refusal(&full, &put(9, value)), 11);

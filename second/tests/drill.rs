@@ -358,7 +358,7 @@ fn reading_comes_before_the_page_is_judged() {
 
 /// A page that is out, and nobody has it: rule 1 alone is broken.
 fn unsound() -> Vec<u8> {
-    vec![0; 1_088]
+    vec![0; 4_160]
 }
 
 const UNSOUND: [u8; 32] = [
@@ -412,7 +412,7 @@ fn refused_run(page: &[u8], seen: &[u8], requests: &[u8], room: u64, refusal: u8
 
 #[test]
 fn whole_refusals_come_in_order() {
-    let mut fresh = vec![0; 1_088];
+    let mut fresh = vec![0; 4_160];
     fresh[1] = 1;
     let two = ask(19, 0, 0, 0).repeat(2);
     let long = ask(19, 0, 0, 0).repeat(2_049);
@@ -438,8 +438,8 @@ fn runs_of_the_shortest_and_of_the_longest() {
     let three = [line(0), vec![170; 3]].concat();
     assert_eq!(answers(&[op(4, 3, &[])]), three);
     let most = [
-        line(0).repeat(32),
-        line(10).repeat(2_017),
+        line(0).repeat(128),
+        line(10).repeat(1_921),
         vec![170; 32_768],
     ];
     let requests = ask(19, 0, 0, 0).repeat(2_048);
@@ -455,7 +455,7 @@ fn a_buffer_has_65536_bytes_at_most() {
             assert_eq!(written, [line(number), vec![170; 65_536]].concat());
         }
         let written = answers(&[op(9, a, &[])]);
-        let expected = [line(0), raw(&[]), vec![170; 65_536 - 1_088]];
+        let expected = [line(0), raw(&[]), vec![170; 65_536 - 4_160]];
         assert_eq!(written, expected.concat());
     }
     let written = answers(&[op(4, 65_535, &[]), look()]);
@@ -555,7 +555,7 @@ fn operation_5_leaves_the_page() {
 /// A sound page: a claim at bucket 2 beside a writeback, and three readers.
 /// Every byte that nothing looks at is not zero.
 fn busy() -> Vec<u8> {
-    let mut raw = vec![0xee; 1_088];
+    let mut raw = vec![0xee; 4_160];
     raw[..11].copy_from_slice(&[6, 1, 3, 0, 1, 2, 0xee, 1, 0, 0xee, 1]);
     raw[16..20].copy_from_slice(&[1, 0, 2, 1]);
     let value = [1, 2, 3, 4, 5, 6, 7, 8];
@@ -664,7 +664,7 @@ fn a_loader_without_a_bucket_leaves_the_counts() {
 
 /// The page of these bytes (place, byte) over a fresh one of 0.
 fn raw(bytes: &[(usize, u8)]) -> Vec<u8> {
-    let mut raw = vec![0; 1_088];
+    let mut raw = vec![0; 4_160];
     raw[1] = 1;
     for &(place, byte) in bytes {
         raw[place] = byte;
@@ -696,8 +696,8 @@ fn each_rule_broken_alone() {
         (8, &[(65, 1)]),
         (8, &[(64, 2)]),
         (8, &[(64, 3)]),
-        (8, &[(1_072, 3), (1_080, 5)]),
-        (8, &[(1_073, 255)]),
+        (8, &[(4_144, 3), (4_152, 5)]),
+        (8, &[(4_145, 255)]),
         (8, &[(2, 1), (65, 1), (17, 1), (80, 3)]),
     ];
     for (rule, bytes) in cases {
@@ -730,9 +730,9 @@ fn the_lowest_broken_rule_is_named() {
     assert_eq!(judged(&raw(&loader)), (1, 4));
 }
 
-/// A page with 64 readers at bucket 0 to 3 and a length of these two bytes.
+/// A page with 256 readers at bucket 0 to 3 and a length of these two bytes.
 fn full(low: u8, high: u8) -> Vec<u8> {
-    let mut page = raw(&[(2, low), (3, high), (16, 16), (17, 16), (18, 16), (19, 16)]);
+    let mut page = raw(&[(2, low), (3, high), (16, 64), (17, 64), (18, 64), (19, 64)]);
     for (place, entry) in page[64..].chunks_exact_mut(16).enumerate() {
         entry[1] = (place % 4) as u8;
     }
@@ -741,19 +741,19 @@ fn full(low: u8, high: u8) -> Vec<u8> {
 
 #[test]
 fn a_length_above_the_capacity_is_shown_as_kept() {
-    let listed: Vec<u8> = (0..64)
+    let listed: Vec<u8> = (0..=255)
         .flat_map(|place| [1, place % 4, 0, 0, 0, 0, 0, 0, 0, 0, 0, 0, 0, 0, 0, 0])
         .collect();
-    let sound = [0, 0, 0, 0, 16, 0, 0, 16, 0, 0, 16, 0, 0, 16, 0, 0];
+    let sound = [0, 0, 0, 0, 64, 0, 0, 64, 0, 0, 64, 0, 0, 64, 0, 0];
     let rule_8 = [1, 8, 0, 0, 0, 0, 0, 0, 0, 0, 0, 0, 0, 0, 0, 0];
     for (low, high, judgement) in [
-        (64, 0, sound),
-        (65, 0, rule_8),
-        (66, 0, rule_8),
-        (0, 1, rule_8),
+        (0, 1, sound),
+        (1, 1, rule_8),
+        (2, 1, rule_8),
+        (0, 2, rule_8),
         (255, 255, rule_8),
     ] {
-        let summary = [0, 1, low, high, 16, 16, 16, 16, 0, 0, 0, 0, 0, 0, 0, 0];
+        let summary = [0, 1, low, high, 64, 64, 64, 64, 0, 0, 0, 0, 0, 0, 0, 0];
         let expected = [&line(0)[..], &judgement, &summary, &listed].concat();
         let written = answers(&[op(7, 0, &full(low, high)), look()]);
         assert_eq!(written, expected);
@@ -762,12 +762,12 @@ fn a_length_above_the_capacity_is_shown_as_kept() {
 
 #[test]
 fn all_entries_are_listed_above_the_capacity() {
-    let mut page = full(65, 0);
-    page[1_073] = 0;
+    let mut page = full(1, 1);
+    page[4_145] = 0;
     assert_eq!(judged(&page), (1, 5));
-    page[1_073] = 4;
+    page[4_145] = 4;
     assert_eq!(judged(&page), (1, 5));
-    page[19] = 15;
+    page[19] = 63;
     assert_eq!(judged(&page), (1, 7));
 }
 
@@ -821,9 +821,9 @@ fn visited_and_counts_are_any_byte() {
     for visited in [5, 255] {
         assert_eq!(judged(&visiting(visited)), (1, 2));
     }
-    let page = raw(&[(16, 255), (17, 32), (18, 1)]);
+    let page = raw(&[(16, 255), (17, 128), (18, 1)]);
     let written = answers(&[op(7, 0, &page), look()]);
-    assert_eq!(written[32..40], [0, 1, 0, 0, 255, 32, 1, 0]);
+    assert_eq!(written[32..40], [0, 1, 0, 0, 255, 128, 1, 0]);
 }
 
 /// What a kind doesn't have may be anything, within bytes 1, 7 and 10.
@@ -846,9 +846,10 @@ fn what_a_kind_does_not_have_is_not_looked_at() {
 fn a_payload_without_meaning_leaves_the_page_and_the_program_goes_on() {
     let mut without = vec![
         vec![],
-        vec![0; 1_087],
-        vec![0; 1_089],
-        vec![0; 4_160],
+        vec![0; 4_159],
+        vec![0; 4_161],
+        vec![0; 1_088],
+        raw(&[])[..1_088].to_vec(),
         raw(&[(0, 11)]),
         raw(&[(0, 255)]),
         raw(&[(1, 2)]),
@@ -862,7 +863,7 @@ fn a_payload_without_meaning_leaves_the_page_and_the_program_goes_on() {
         raw(&[(8, 4)]),
         raw(&[(8, 255)]),
     ];
-    for entry in [64, 80, 1_072] {
+    for entry in [64, 80, 1_072, 1_088, 4_144] {
         without.push(raw(&[(entry, 4)]));
         without.push(raw(&[(entry, 255)]));
     }
@@ -890,7 +891,7 @@ fn a_raw_page_replaces_the_one_before() {
 /// The image of the busy page: it has zeros where nothing looks at a raw page.
 fn busy_image() -> Vec<u8> {
     let value = [1, 2, 3, 4, 5, 6, 7, 8];
-    let mut image = vec![0; 1_088];
+    let mut image = vec![0; 4_160];
     image[..11].copy_from_slice(&[6, 1, 3, 0, 1, 2, 0, 0, 0, 0, 1]);
     image[16..20].copy_from_slice(&[1, 0, 2, 1]);
     image[32..56].copy_from_slice(&value.repeat(3));
@@ -905,9 +906,9 @@ fn busy_image() -> Vec<u8> {
 fn operation_9_writes_the_image_and_leaves_the_rest_of_its_buffer() {
     for more in [0, 1, 100] {
         let stream = [
-            op(9, 1_088 + more, &[]),
+            op(9, 4_160 + more, &[]),
             op(7, 0, &busy()),
-            op(9, 1_088 + more, &[]),
+            op(9, 4_160 + more, &[]),
         ];
         let rest = vec![170; more as usize];
         let expected = [
@@ -925,12 +926,12 @@ fn operation_9_writes_the_image_and_leaves_the_rest_of_its_buffer() {
 
 #[test]
 fn operation_9_refuses_1_and_then_15_and_writes_the_buffer_out() {
-    for room in [0, 1, 16, 1_087, 1_088, 1_089, 2_000] {
+    for room in [0, 1, 16, 1_087, 1_088, 1_089, 4_159, 4_160, 4_161, 5_000] {
         let rest = vec![170; room as usize];
         let stream = [op(7, 0, &unsound()), op(9, room, &[]), look()];
         let expected = [line(0), line(1), rest.clone(), UNSOUND.to_vec()];
         assert_eq!(answers(&stream), expected.concat());
-        if room < 1_088 {
+        if room < 4_160 {
             let stream = [op(9, room, &[]), look()];
             let expected = [line(15), rest, FRESH.to_vec()];
             assert_eq!(answers(&stream), expected.concat());
@@ -943,7 +944,7 @@ fn operation_9_leaves_the_page_and_drops_its_payload() {
     let stream = [
         op(2, 0, &ask(19, 3, 0, 0)),
         op(9, 0, &busy_image()),
-        op(9, 1_088, &[255; 33]),
+        op(9, 4_160, &[255; 33]),
     ];
     let one = raw(&[(2, 1), (19, 1), (64, 1), (65, 3)]);
     let expected = [line(0), line(15), line(0), one].concat();
@@ -952,7 +953,7 @@ fn operation_9_leaves_the_page_and_drops_its_payload() {
 
 #[test]
 fn operation_8_makes_the_page_that_the_image_says() {
-    let stream = [op(8, 77, &busy_image()), op(9, 1_088, &[]), look()];
+    let stream = [op(8, 77, &busy_image()), op(9, 4_160, &[]), look()];
     let seen = answers(&[op(7, 0, &busy()), look()]);
     let expected = [&line(0)[..], &seen[..16], &busy_image(), &seen[16..]];
     assert_eq!(answers(&stream), expected.concat());
@@ -964,12 +965,13 @@ fn operation_8_makes_the_page_that_the_image_says() {
 fn operation_8_gives_a_fresh_page_of_0_where_it_refuses() {
     let long = [busy_image(), busy_image()].concat();
     let mut refused: Vec<(&[u8], u8)> = Vec::new();
-    for length in [0, 1, 16, 1_087, 1_089, 2_176] {
+    for length in [0, 1, 16, 64, 1_087, 1_089, 2_624, 4_159, 4_161, 8_320] {
         refused.push((&long[..length], 15));
     }
     let raw_page = busy();
     let unsound = unsound();
-    refused.extend([(&raw_page[..], 16), (&unsound, 16), (&[255; 1_088], 16)]);
+    refused.extend([(&raw_page[..], 16), (&unsound, 16), (&[255; 4_160], 16)]);
+    refused.extend([(&raw_page[..1_088], 16), (&unsound[..1_088], 16)]);
     for (payload, refusal) in refused {
         for before in [&busy(), &unsound] {
             let stream = [op(7, 0, before), op(8, 0, payload), look()];
@@ -988,6 +990,168 @@ fn operation_8_gives_a_fresh_page_of_0_where_it_refuses() {
     }
 }
 
+// The limits, and short images.
+
+/// A page of so many readers at each bucket and nobody else, in this many bytes.
+fn crowd(readers: [u8; 4], length: usize) -> Vec<u8> {
+    let mut page = vec![0; length];
+    let buckets = (0..4).flat_map(|bucket| vec![bucket; usize::from(readers[bucket])]);
+    let listed = buckets.clone().count();
+    page[1] = 1;
+    page[2..4].copy_from_slice(&(listed as u16).to_le_bytes());
+    page[16..20].copy_from_slice(&readers);
+    for (bucket, entry) in buckets.zip(page[64..].chunks_exact_mut(16)) {
+        entry[..2].copy_from_slice(&[1, bucket as u8]);
+    }
+    page
+}
+
+/// A look at such a page.
+fn crowd_seen(readers: [u8; 4]) -> Vec<u8> {
+    let page = crowd(readers, 4_160);
+    let listed = readers
+        .iter()
+        .map(|&number| usize::from(number))
+        .sum::<usize>();
+    let mut seen = vec![0; 32];
+    for (bucket, number) in readers.into_iter().enumerate() {
+        seen[4 + 3 * bucket] = number;
+    }
+    seen[17] = 1;
+    seen[18..20].copy_from_slice(&page[2..4]);
+    seen[20..24].copy_from_slice(&readers);
+    seen.extend(&page[64..][..16 * listed]);
+    seen
+}
+
+/// Case I, one by one with the page lent, in a run and in one piece. At both limits
+/// the lower number is given.
+#[test]
+fn case_i() {
+    let cases = [([127, 0, 0, 0], 0, 10), ([64; 4], 0, 11)];
+    let both = [([127, 127, 2, 0], 0, 10), ([127, 127, 2, 0], 3, 11)];
+    for (readers, bucket, number) in cases.into_iter().chain(both) {
+        let mut requests = Vec::new();
+        for (bucket, number) in (0..).zip(readers) {
+            requests.extend(vec![ask(19, bucket, 0, 0); number]);
+        }
+        requests.push(ask(19, bucket, 0, 0));
+        let accepted = line(0).repeat(requests.len() - 1);
+        let lines = [&accepted[..], &line(number)].concat();
+        let seen = crowd_seen(readers.map(|number| number as u8));
+        let single: Vec<u8> = requests.iter().flat_map(|r| op(3, 0, r)).collect();
+        let written = answers(&[single, look()]);
+        assert_eq!(written, [&lines[..], &seen].concat());
+        let room = lines.len() as u64;
+        let written = answers(&[op(4, room, &requests.concat()), look()]);
+        assert_eq!(written, [&line(0), &lines[..], &seen].concat());
+        let (first, last) = requests.split_at(requests.len() - 1);
+        let piece = op(10, room - 16, &first.concat());
+        let written = answers(&[piece, op(10, 16, &last.concat()), look()]);
+        let empty = [line(0), vec![0; 16]].concat();
+        let expected = [&empty, &accepted, &empty, &line(number), &seen];
+        assert_eq!(written, expected.map(|bytes| &bytes[..]).concat());
+    }
+}
+
+/// `00 01` in bytes 2 and 3. Nothing else is the length of this list.
+#[test]
+fn a_list_of_256() {
+    let page = crowd([127, 127, 2, 0], 4_160);
+    assert_eq!(page[2..4], [0, 1]);
+    for operation in [7, 8] {
+        let stream = [op(operation, 0, &page), look(), op(9, 4_160, &[])];
+        let seen = crowd_seen([127, 127, 2, 0]);
+        let expected = [line(0), seen, line(0), page.clone()];
+        assert_eq!(answers(&stream), expected.concat());
+    }
+    for length in [[0, 0], [1, 0], [255, 0], [1, 1], [0, 2], [255, 255]] {
+        let mut page = page.clone();
+        page[2..4].copy_from_slice(&length);
+        assert_eq!(answers(&[op(8, 0, &page)]), line(16), "{length:?}");
+    }
+}
+
+/// 128 readers that are listed and counted; and 256, whose count has no byte.
+#[test]
+fn a_count_above_127() {
+    assert_eq!(judged(&crowd([0, 127, 0, 0], 4_160)), (0, 0));
+    for count in [128, 129, 255] {
+        let page = crowd([0, count, 0, 0], 4_160);
+        assert_eq!(judged(&page), (1, 8));
+        assert_eq!(answers(&[op(8, 0, &page)]), line(16));
+    }
+    let mut page = crowd([0, 255, 0, 0], 4_160);
+    page[2..4].copy_from_slice(&[0, 1]);
+    page[4_144..4_146].copy_from_slice(&[1, 1]);
+    for count in [0, 1, 127, 255] {
+        page[17] = count;
+        assert_eq!(judged(&page), (1, 5));
+        assert_eq!(answers(&[op(8, 0, &page)]), line(16));
+    }
+}
+
+/// It is the same page as that of the long image, and it is written long. There is
+/// no room for it in 1,088 bytes.
+#[test]
+fn operation_8_takes_a_short_image() {
+    let busy_short = &busy_image()[..1_088];
+    busy_page_acts(8, busy_short);
+    for room in [0, 1_088, 4_159] {
+        let stream = [op(8, 0, busy_short), op(9, room, &[])];
+        let expected = [line(0), line(15), vec![170; room as usize]];
+        assert_eq!(answers(&stream), expected.concat());
+    }
+    for room in [4_160, 4_161] {
+        let stream = [op(8, 0, busy_short), look(), op(9, room, &[])];
+        let mut written = answers(&[op(8, 0, &busy_image()), look(), op(9, 4_160, &[])]);
+        written.resize(written.len() + room as usize - 4_160, 170);
+        assert_eq!(answers(&stream), written);
+    }
+    let with_zeros = [busy_short, &[0; 3_072]].concat();
+    assert_eq!(with_zeros, busy_image());
+}
+
+/// The short limits are of the image alone: the page goes on past them.
+#[test]
+fn the_short_limits() {
+    let kept = [[16; 4], [31, 31, 2, 0], [0, 31, 2, 31], [31, 0, 0, 0]];
+    for readers in kept {
+        let short = crowd(readers, 1_088);
+        let stream = [
+            op(8, 0, &short),
+            look(),
+            op(2, 0, &ask(19, 0, 0, 0)),
+            op(3, 0, &ask(19, 1, 0, 0)),
+            op(9, 4_160, &[]),
+        ];
+        let written = answers(&stream);
+        let seen = [line(0), crowd_seen(readers), line(0), line(0), line(0)].concat();
+        assert_eq!(written[..seen.len()], seen);
+        let mut image = crowd(readers, 4_160);
+        let end = 64 + 16 * usize::from(image[2]);
+        image[2] += 2;
+        image[16] += 1;
+        image[17] += 1;
+        image[end] = 1;
+        image[end + 16..][..2].copy_from_slice(&[1, 1]);
+        assert_eq!(written[seen.len()..], image);
+        assert_eq!(answers(&[op(8, 0, &image)]), line(0));
+    }
+    let long_alone = [
+        [32, 0, 0, 0],
+        [0, 31, 0, 32],
+        [17, 16, 16, 16],
+        [31, 31, 3, 0],
+    ];
+    for readers in long_alone {
+        let long = crowd(readers, 4_160);
+        let stream = [op(8, 0, &long), op(8, 0, &long[..1_088]), look()];
+        let expected = [line(0), line(16), FRESH.to_vec()];
+        assert_eq!(answers(&stream), expected.concat(), "{readers:?}");
+    }
+}
+
 // Giving back.
 
 /// What is written after the page of this operation and payload is asked this,
@@ -998,7 +1162,7 @@ fn asked_of(operation: u8, payload: &[u8], request: Vec<u8>) -> Vec<u8> {
             op(operation, 0, payload),
             op(number, 0, &request),
             look(),
-            op(9, 1_088, &[]),
+            op(9, 4_160, &[]),
         ];
         answers(&stream)
     });
@@ -1066,10 +1230,10 @@ fn a_claim_without_a_bucket_leaves_the_counts() {
     let left = raw(&[&reader[..], &[(0, 3)]].concat());
     let written = asked_of(7, &claimed, ask(25, 0, 0, 0));
     assert_eq!(written[..16], line(0));
-    assert_eq!(written[written.len() - 1_088..], left);
+    assert_eq!(written[written.len() - 4_160..], left);
     let written = asked_of(7, &claimed, ask(26, 0, 0, 0));
     assert_eq!(written[..16], line(7));
-    assert_eq!(written[written.len() - 1_088..], claimed);
+    assert_eq!(written[written.len() - 4_160..], claimed);
 }
 
 /// A claimant that waits beside the archive, and alone.
@@ -1080,13 +1244,13 @@ fn a_claimant_stops_waiting() {
     waiting[4] = 2;
     let written = asked_of(8, &waiting, ask(27, 0, 0, 0));
     assert_eq!(written[..16], line(0));
-    assert_eq!(written[written.len() - 1_088..], busy_image());
+    assert_eq!(written[written.len() - 4_160..], busy_image());
     for bucket in [0, 3] {
         let count = (16 + usize::from(bucket), 1);
         let waiting = raw(&[(0, 8), (4, 2), (5, bucket), count]);
         let written = asked_of(8, &waiting, ask(27, 0, 0, 0));
         let claimed = raw(&[(0, 4), (4, 1), (5, bucket), count]);
-        assert_eq!(written[written.len() - 1_088..], claimed);
+        assert_eq!(written[written.len() - 4_160..], claimed);
     }
 }
 
@@ -1101,7 +1265,7 @@ fn a_claimant_turns_back() {
             let written = asked_of(8, &visiting, ask(28, 0, 0, 0));
             let claimed = raw(&[&[(0, 4), (4, 1)], &own[..]].concat());
             assert_eq!(written[..16], line(0));
-            assert_eq!(written[written.len() - 1_088..], claimed);
+            assert_eq!(written[written.len() - 4_160..], claimed);
         }
     }
 }
@@ -1181,7 +1345,7 @@ fn a_clean_editor_keeps_what_it_came_with() {
                     let number = if bucketless { 7 } else { 17 };
                     let written = asked_of(operation, &page, ask(step, 0, 0, other));
                     assert_eq!(written[..16], line(number));
-                    assert_eq!(written[written.len() - 1_088..], page);
+                    assert_eq!(written[written.len() - 4_160..], page);
                 }
                 let number = if bucketless { 7 } else { 0 };
                 let written = asked_of(operation, &page, ask(step, 0, 0, value));
@@ -1217,7 +1381,7 @@ fn an_editor_keeps_its_value_where_it_gets_a_bucket() {
         for operation in [7, 8] {
             let written = asked_of(operation, &uncounted, ask(18, 3, 0, 0));
             assert_eq!(written[..16], line(0));
-            assert_eq!(written[written.len() - 1_088..], counted);
+            assert_eq!(written[written.len() - 4_160..], counted);
         }
     }
 }
@@ -1311,7 +1475,7 @@ fn exact_lists() {
             single.flat_map(|(request, n)| op(n, 0, request)).collect()
         };
         let entries: Vec<u8> = list.iter().flat_map(|&reader| entry(reader)).collect();
-        let rest = vec![0; 1_024 - entries.len()];
+        let rest = vec![0; 4_096 - entries.len()];
         let lines = 16 * asked.len();
         let run = op(4, lines as u64, &asked.concat());
         let streams = [
@@ -1320,7 +1484,7 @@ fn exact_lists() {
             (run, 16 + lines),
         ];
         for (stream, answered) in streams {
-            let written = answers(&[stream, look(), op(9, 1_088, &[])]);
+            let written = answers(&[stream, look(), op(9, 4_160, &[])]);
             let (answers, seen) = written.split_at(answered);
             assert!(answers.chunks(16).all(|line| line[0] == 0));
             let (look, image) = seen.split_at(32 + entries.len());
@@ -1358,7 +1522,7 @@ fn one_leaves_a_busy_page() {
             let written = asked_of(operation, &payload, request.clone());
             assert_eq!(written[..16], line(0));
             assert_eq!(written[48..80], image[64..96]);
-            assert_eq!(written[written.len() - 1_088..], image);
+            assert_eq!(written[written.len() - 4_160..], image);
         }
     }
 }

@@ -70,7 +70,7 @@ const LOADED: [u8; 32] = [
 
 /// A page as it stands that breaks rule 6: claimed by nobody. And a look at it.
 fn unsound() -> Vec<u8> {
-    let mut page = vec![0; 1_088];
+    let mut page = vec![0; 4_160];
     page[0] = 4;
     page[1] = 1;
     page
@@ -378,7 +378,7 @@ fn a_carry_that_was_set_is_taken() {
 /// Every other operation in between; those that are refused, too.
 #[test]
 fn other_operations_leave_the_carry() {
-    let mut image = vec![0; 1_088];
+    let mut image = vec![0; 4_160];
     image[1] = 1;
     let others = [
         op(1, 6, &[]),
@@ -394,7 +394,7 @@ fn other_operations_leave_the_carry() {
         op(8, 0, &image),
         op(8, 0, &[]),
         op(9, 0, &[]),
-        op(9, 1_088, &[]),
+        op(9, 4_160, &[]),
         op(11, 0, &[]),
     ];
     for other in others {

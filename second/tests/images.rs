@@ -1,7 +1,9 @@
 //! Images: their exact bytes, that reading and writing undo each other, and
-//! every way not to be an image.
+//! every way not to be an image; and the same of short ones, which are only read.
 
 mod common;
+
+use std::iter;
 
 use common::walks;
 use second::image::{read_image, write_image};
@@ -53,16 +55,16 @@ fn claimed(bucket: Option<u8>, steps: &[Step]) -> Page {
 type Part<'a> = (usize, &'a [u8]);
 
 /// Zeros, but for these parts.
-fn bytes(parts: &[Part]) -> [u8; 1_088] {
-    let mut bytes = [0; 1_088];
+fn bytes(parts: &[Part]) -> [u8; 4_160] {
+    let mut bytes = [0; 4_160];
     for &(place, part) in parts {
         bytes[place..place + part.len()].copy_from_slice(part);
     }
     bytes
 }
 
-fn image(page: &Page) -> [u8; 1_088] {
-    let mut image = [170; 1_088];
+fn image(page: &Page) -> [u8; 4_160] {
+    let mut image = [170; 4_160];
     assert_eq!(write_image(page, &mut image), Ok(()), "{page:?}");
     image
 }
@@ -133,21 +135,46 @@ fn readers_stand_as_listed_with_zeros_behind() {
     has_image(&page, &[&head[..], &first, &last].concat());
 }
 
-/// Case I: 31 at each of two buckets, and 2 at a third one.
-fn crowded() -> Page {
-    let readers = [vec![0; 31], vec![1; 31], vec![2; 2]].concat();
-    let steps: Vec<Step> = readers.iter().map(|&bucket| (19, bucket, 0, 0)).collect();
+/// A record that has one reader after the other at these buckets, and nobody else.
+fn crowd(buckets: &[u8]) -> Page {
+    let steps: Vec<Step> = buckets.iter().map(|&bucket| (19, bucket, 0, 0)).collect();
     after(fresh(0), &steps)
+}
+
+/// Case I: 127 at each of two buckets, and 2 at a third one.
+fn crowded() -> Page {
+    crowd(&[vec![0; 127], vec![1; 127], vec![2; 2]].concat())
+}
+
+/// A list with the length in two bytes, of which the low one is first.
+#[test]
+fn long_lists() {
+    let cases: [(Vec<u8>, [u8; 2], [u8; 4]); 6] = [
+        (vec![3; 31], [31, 0], [0, 0, 0, 31]),
+        (vec![3; 32], [32, 0], [0, 0, 0, 32]),
+        ([[0; 32], [1; 32]].concat(), [64, 0], [32, 32, 0, 0]),
+        ([0, 1, 2, 3, 0].repeat(13), [65, 0], [26, 13, 13, 13]),
+        ([0, 2, 3].repeat(85), [255, 0], [85, 0, 85, 85]),
+        ([0, 1, 2, 3].repeat(64), [0, 1], [64; 4]),
+    ];
+    for (buckets, length, counts) in cases {
+        let entries: Vec<u8> = buckets
+            .iter()
+            .flat_map(|&bucket| [1, bucket, 0, 0, 0, 0, 0, 0, 0, 0, 0, 0, 0, 0, 0, 0])
+            .collect();
+        let parts: [Part; 4] = [(1, &[1]), (2, &length), (16, &counts), (64, &entries)];
+        has_image(&crowd(&buckets), &parts);
+    }
 }
 
 #[test]
 fn a_full_list() {
-    let readers = [vec![0; 31], vec![1; 31], vec![2; 2]].concat();
+    let readers = [vec![0; 127], vec![1; 127], vec![2; 2]].concat();
     let entries: Vec<u8> = readers
         .iter()
         .flat_map(|&bucket| [1, bucket, 0, 0, 0, 0, 0, 0, 0, 0, 0, 0, 0, 0, 0, 0])
         .collect();
-    let parts: [Part; 3] = [(1, &[1, 64, 0]), (16, &[31, 31, 2, 0]), (64, &entries)];
+    let parts: [Part; 3] = [(1, &[1, 0, 1]), (16, &[127, 127, 2, 0]), (64, &entries)];
     has_image(&crowded(), &parts);
 }
 
@@ -267,15 +294,13 @@ fn loaders() {
 // There and back.
 
 /// All pages of these seeds' long streams, sound and not.
-fn drawn_pages() -> Vec<Page> {
+fn drawn_pages() -> impl Iterator<Item = Page> {
     let requests = 2_000;
-    let streams = (1..=3).map(|seed| stream(&Plan { seed, requests }));
-    let mut pages = Vec::new();
-    for walk in streams.flat_map(|stream| walks(&stream)) {
-        pages.push(walk.start);
-        pages.extend(walk.asked.into_iter().map(|asked| asked.after));
-    }
-    pages
+    let streams = (1..=3).map(move |seed| stream(&Plan { seed, requests }));
+    streams.flat_map(|stream| walks(&stream)).flat_map(|walk| {
+        let after = walk.asked.into_iter().map(|asked| (*asked.after).clone());
+        iter::once(walk.start).chain(after)
+    })
 }
 
 #[test]
@@ -286,9 +311,9 @@ fn reading_and_writing_undo_each_other() {
         if sound(&page) {
             assert_eq!(read_image(&image(&page)), restored(&page));
         } else {
-            let mut buffer = [170; 1_089];
+            let mut buffer = [170; 4_161];
             assert_eq!(write_image(&page, &mut buffer), Err(Refusal::NotSound));
-            assert_eq!(buffer, [170; 1_089]);
+            assert_eq!(buffer, [170; 4_161]);
             assert_eq!(read_image(&write_raw(&page)), refused(Refusal::NotImage));
         }
     }
@@ -296,7 +321,7 @@ fn reading_and_writing_undo_each_other() {
 }
 
 /// Judged the other way round: the bytes that a sound record has as its image.
-fn is_image(bytes: &[u8; 1_088]) -> bool {
+fn is_image(bytes: &[u8; 4_160]) -> bool {
     read_raw(bytes).is_some_and(|page| sound(&page) && image(&page) == *bytes)
 }
 
@@ -316,15 +341,35 @@ fn damaged(page: &Page, place: usize, byte: u8) -> bool {
     outcome.answer.is_ok()
 }
 
-#[test]
-fn any_byte_damaged_in_any_way() {
+/// The pages that the streams restore.
+fn kept() -> Vec<Page> {
     let (seed, requests) = (1, 0);
     let plan = Plan { seed, requests };
-    for page in main_kept().iter().chain(&more_kept(&plan)) {
-        for (place, &byte) in image(page).iter().enumerate() {
+    let more = more_kept(&plan).into_iter();
+    main_kept().into_iter().chain(more).collect()
+}
+
+/// The places of the head and of some entries: the first ones, the last one that is
+/// listed and the next, and those around both lengths.
+fn some_places(page: &Page) -> Vec<usize> {
+    let listed = page.shared_state.listed().len();
+    let mut entries = vec![0, 1, 62, 63, 64, 254, 255];
+    entries.extend([listed.saturating_sub(1), listed, listed + 1]);
+    entries.retain(|&entry| entry < 256);
+    let entries = entries.into_iter().map(|entry| 64 + 16 * entry);
+    let places = entries.flat_map(|entry| entry..entry + 16);
+    (0..64).chain(places).collect()
+}
+
+#[test]
+fn any_byte_damaged_in_any_way() {
+    for page in kept() {
+        let image = image(&page);
+        for place in some_places(&page) {
+            let byte = image[place];
             let others = [byte.wrapping_add(1), byte ^ 128, 0, 1, 4, 255];
             for other in others.into_iter().filter(|&other| other != byte) {
-                damaged(page, place, other);
+                damaged(&page, place, other);
             }
         }
     }
@@ -333,7 +378,7 @@ fn any_byte_damaged_in_any_way() {
 /// The places at which one more is the image of another record.
 fn harmless(page: &Page) -> Vec<usize> {
     let image = image(page);
-    (0..1_088)
+    (0..4_160)
         .filter(|&place| damaged(page, place, image[place].wrapping_add(1)))
         .collect()
 }
@@ -393,14 +438,12 @@ fn an_editor_that_does_not_say_what_it_took() {
             no_image(&editor, &[(4, &[4]), (40, &[255; 8])]);
         }
     }
-    let (seed, requests) = (1, 0);
-    let plan = Plan { seed, requests };
-    for page in main_kept().iter().chain(&more_kept(&plan)) {
-        no_image(page, &[(4, &[4])]);
-        no_image(page, &[(4, &[4]), (40, &[0; 8])]);
+    for page in kept() {
+        no_image(&page, &[(4, &[4])]);
+        no_image(&page, &[(4, &[4]), (40, &[0; 8])]);
     }
-    for page in drawn_pages().iter().filter(|page| sound(page)).step_by(10) {
-        no_image(page, &[(4, &[4])]);
+    for page in drawn_pages().filter(sound).step_by(10) {
+        no_image(&page, &[(4, &[4])]);
     }
 }
 
@@ -456,7 +499,7 @@ fn entries_of_the_list() {
     for entry in [64, 80, 96] {
         no_image(&busy(), &[(entry, &[0])]);
     }
-    for entry in [112, 1_072] {
+    for entry in [112, 1_072, 1_088, 4_144] {
         for blank in [[1, 0], [0, 1], [2, 0], [3, 0]] {
             no_image(&busy(), &[(entry, &blank)]);
         }
@@ -475,18 +518,28 @@ fn lengths_of_the_list() {
         [3, 1],
         [3, 128],
         [0, 0],
+        [0, 1],
         [255, 255],
     ] {
         no_image(&busy(), &[(2, &length)]);
     }
-    for length in [[63, 0], [65, 0], [64, 1], [128, 0], [0, 1]] {
+    for length in [
+        [0, 0],
+        [1, 0],
+        [64, 0],
+        [254, 0],
+        [255, 0],
+        [1, 1],
+        [0, 2],
+        [255, 255],
+    ] {
         no_image(&crowded(), &[(2, &length)]);
     }
 }
 
 #[test]
 fn images_of_records_that_are_not_sound() {
-    assert_eq!(read_image(&[0; 1_088]), refused(Refusal::NotImage));
+    assert_eq!(read_image(&[0; 4_160]), refused(Refusal::NotImage));
     for (rule, raw) in main_pages().into_iter().chain(more_pages()) {
         let page = read_raw(&raw.0).unwrap();
         let outcome = read_image(&write_raw(&page));
@@ -499,33 +552,36 @@ fn images_of_records_that_are_not_sound() {
 #[test]
 fn reading_tests_the_length_first() {
     let twice = [image(&busy()), image(&busy())].concat();
-    for length in [0, 1, 16, 64, 1_087, 1_089, 1_104, 2_176] {
+    let lengths = (0..=4_200).chain([5_248, 8_319, 8_320]);
+    for length in lengths.filter(|length| ![1_088, 4_160].contains(length)) {
         let expected = refused(Refusal::ImageLength);
         assert_eq!(read_image(&twice[..length]), expected);
         assert_eq!(read_image(&vec![0; length]), expected);
         assert_eq!(read_image(&vec![255; length]), expected);
     }
-    assert_eq!(read_image(&[255; 1_088]), refused(Refusal::NotImage));
-    assert_eq!(read_image(&twice[..1_088]), restored(&busy()));
+    for length in [1_088, 4_160] {
+        assert_eq!(read_image(&vec![255; length]), refused(Refusal::NotImage));
+        assert_eq!(read_image(&twice[..length]), restored(&busy()));
+    }
 }
 
 #[test]
 fn writing_judges_the_record_before_the_room() {
     let mut broken = busy();
     broken.ref_counts[3] = Count(2);
-    for room in [0, 1, 64, 1_087, 1_088, 1_089, 2_176] {
+    for room in [0, 1, 64, 1_087, 1_088, 1_089, 4_159, 4_160, 4_161, 8_320] {
         let before: Vec<u8> = (0..=255).cycle().take(room).collect();
         let mut buffer = before.clone();
         assert_eq!(write_image(&broken, &mut buffer), Err(Refusal::NotSound));
         assert_eq!(buffer, before);
         let written = write_image(&busy(), &mut buffer);
-        if room < 1_088 {
+        if room < 4_160 {
             assert_eq!(written, Err(Refusal::ImageLength));
             assert_eq!(buffer, before);
         } else {
             assert_eq!(written, Ok(()));
-            assert_eq!(buffer[..1_088], image(&busy()));
-            assert_eq!(buffer[1_088..], before[1_088..]);
+            assert_eq!(buffer[..4_160], image(&busy()));
+            assert_eq!(buffer[4_160..], before[4_160..]);
         }
     }
 }

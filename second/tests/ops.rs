@@ -12,7 +12,7 @@ use second::kinds::{
     CEILING,
 };
 use second::ops::ends::{end_of, End, ENDS};
-use second::ops::pages::{main_pages, more_pages, without_meaning};
+use second::ops::pages::{main_pages, more_pages, more_without_meaning, without_meaning};
 use second::ops::removals::REMOVALS;
 use second::ops::{stream, Plan, REQUESTS};
 use second::pieces::Carry;
@@ -52,8 +52,8 @@ fn a_stream_is_made_the_same_again() {
 #[test]
 fn the_first_stream_is_small() {
     let stream = short(1);
-    assert!((80_000..=275_200).contains(&stream.len()));
-    assert!(answers(&stream).len() <= 464_500);
+    assert!((80_000..=555_400).contains(&stream.len()));
+    assert!(answers(&stream).len() <= 854_000);
 }
 
 #[test]
@@ -264,8 +264,8 @@ const HOLDERS: [&str; 14] = [
 /// What one short stream has to have of images.
 fn images(seen: &Seen) {
     assert_eq!(seen.images_read, set([0, 15, 16]));
-    for room in [0, 1, 1_087, 1_088, 1_089, 1_188] {
-        let number = if room < 1_088 { 15 } else { 0 };
+    for room in [0, 1, 1_088, 4_159, 4_160, 4_161] {
+        let number = if room < 4_160 { 15 } else { 0 };
         for number in [1, number] {
             assert!(seen.images_written.contains(&(number, room)), "{room}");
         }
@@ -273,8 +273,8 @@ fn images(seen: &Seen) {
     assert_eq!(seen.kept.flags, set(0..=10));
     for images in [&seen.kept, &seen.restored] {
         assert_eq!(images.phases.len(), 3);
-        assert_eq!(images.most_readers, 64);
-        assert_eq!(images.highest_count, 31);
+        assert_eq!(images.most_readers, 256);
+        assert_eq!(images.highest_count, 127);
         for value in [0, 0x0807_0605_0403_0201, StoredType::MAX] {
             assert!(images.values.contains(&value), "{value}");
         }
@@ -402,7 +402,7 @@ struct Returns {
     buckets: BTreeSet<(u8, u8)>,
     /// The visited numbers at which 28 was accepted.
     visited: BTreeSet<u8>,
-    /// The steps that lowered a count of 31, that were accepted on a full list,
+    /// The steps that lowered a count of 127, that were accepted on a full list,
     /// and that put the page in beside readers.
     from_ceiling: BTreeSet<u8>,
     on_full_list: BTreeSet<u8>,
@@ -633,7 +633,7 @@ fn every_stream_has_editors_that_put_in_what_they_keep_and_not() {
                 has(operation, (number, true, false, answer));
             }
         }
-        for kind in [(7, 5, 0), (7, 4, 255), (7, 6, 255), (8, 5, 0), (8, 4, 16)] {
+        for kind in [(7, 5, 0), (7, 4, 255), (8, 5, 0), (8, 4, 16)] {
             assert!(seen.kinds.contains(&kind), "seed {seed}: {kind:?}");
         }
     }
@@ -658,7 +658,9 @@ fn forty_streams_put_in_everything() {
                 }
             }
         }
-        assert!(seen.iter().any(|s| s.kinds.contains(&(8, 6, 16))));
+        for kind in [(7, 6, 255), (8, 6, 16)] {
+            assert!(seen.iter().any(|s| s.kinds.contains(&kind)), "{kind:?}");
+        }
     }
 }
 
@@ -1020,7 +1022,9 @@ fn every_stream_takes_pieces_of_every_kind() {
             seen.accepted
         );
         let numbers = set([0, 3, 5, 6, 7, 8, 9, 17]);
-        assert!(seen.numbers.is_superset(&numbers), "seed {seed}");
+        let missing: Vec<_> = numbers.difference(&seen.numbers).collect();
+        assert!(missing.is_empty(), "seed {seed}: {missing:?}");
+        assert!(!seen.numbers.is_disjoint(&set([10, 11])), "seed {seed}");
     }
 }
 
@@ -1054,8 +1058,8 @@ fn forty_streams_and_a_long_one_have_everything_in_pieces() {
         Pieces::of([long(2)].into_iter()),
     ] {
         assert_eq!(seen.accepted, set(1..=30));
-        let numbers = set([0, 2, 3, 4, 5, 6, 7, 8, 9, 17]);
-        assert!(seen.numbers.is_superset(&numbers), "{:?}", seen.numbers);
+        let numbers = set((2..=11).chain([0, 17]));
+        assert_eq!(seen.numbers, numbers);
         let carried: BTreeSet<usize> = seen.lengths.iter().map(|taken| taken.0).collect();
         assert_eq!(carried, (0..=15).collect());
     }
@@ -1071,7 +1075,6 @@ fn forty_streams_and_a_long_one_have_everything_in_pieces() {
             assert!(seen.set.contains(&(length, Some(place))));
         }
     }
-    assert!(seen.numbers.is_superset(&set([10, 11])));
     assert_eq!(seen.grounds.len(), 15);
 }
 
@@ -1088,7 +1091,13 @@ fn a_long_stream_has_what_is_expensive() {
         assert!(has(4, length), "{length}");
     }
     assert!(has(1, 65_536));
-    for length in [0, 1, 1_087, 1_088, 1_089, 2_176, 65_536] {
+    let around_short = [1_072, 1_087, 1_088, 1_089, 1_104, 2_176, 2_624];
+    let around_long = [4_144, 4_159, 4_160, 4_161, 4_176, 8_320, 65_536];
+    for length in [0, 1, 64]
+        .into_iter()
+        .chain(around_short)
+        .chain(around_long)
+    {
         assert!(has(8, length), "{length}");
     }
     for length in [
@@ -1117,41 +1126,58 @@ fn payloads_and_images(stream: &[u8]) -> (Vec<Vec<u8>>, BTreeSet<Vec<u8>>) {
         let written = drill.perform(&operation).unwrap();
         match operation.number {
             8 => payloads.push(operation.payload),
-            9 if written[0] == 0 => _ = images.insert(written[16..16 + 1_088].to_vec()),
+            9 if written[0] == 0 => _ = images.insert(written[16..16 + 4_160].to_vec()),
             _ => (),
         }
     }
     (payloads, images)
 }
 
-/// The place at which alone the two are different, if that is so.
-fn one_difference(left: &[u8], right: &[u8]) -> Option<usize> {
-    let mut places = (0..1_088).filter(|&place| left[place] != right[place]);
+/// The place at which alone the image's beginning is another than the payload, if
+/// there is just one.
+fn one_difference(image: &[u8], payload: &[u8]) -> Option<usize> {
+    let mut places = (0..payload.len()).filter(|&place| image[place] != payload[place]);
     let place = places.next()?;
     places.next().is_none().then_some(place)
 }
 
-/// The places at which alone a payload is another than some image.
-fn damaged_places(stream: &[u8]) -> BTreeSet<usize> {
+/// The places at which alone a payload is another than some image, or than a short
+/// one; with the payload's length.
+fn damaged_places(stream: &[u8]) -> BTreeSet<(usize, usize)> {
     let (payloads, images) = payloads_and_images(stream);
-    payloads
+    let mut places = BTreeSet::new();
+    for payload in payloads
         .iter()
-        .filter(|payload| payload.len() == 1_088)
-        .flat_map(|payload| images.iter().map(|image| one_difference(image, payload)))
-        .flatten()
-        .collect()
+        .filter(|p| [1_088, 4_160].contains(&p.len()))
+    {
+        let differences = images.iter().map(|image| one_difference(image, payload));
+        places.extend(differences.flatten().map(|place| (payload.len(), place)));
+    }
+    places
 }
 
-/// The entries are the first one, the first one past the length, and the last.
+/// The entries are the first one, the first one past the length, and the last. Each
+/// place is damaged in a long image or in a short one.
 #[test]
 fn images_are_damaged_at_every_place_of_the_head_and_of_entries() {
     let places = damaged_places(&long(4));
-    for place in (0..64).chain(64..80).chain(160..176).chain(1_072..1_088) {
+    let lengths: BTreeSet<usize> = places.iter().map(|&(length, _)| length).collect();
+    assert_eq!(lengths, [1_088, 4_160].into());
+    let places: BTreeSet<usize> = places.iter().map(|&(_, place)| place).collect();
+    for place in (0..64).chain(64..80).chain(160..176) {
         assert!(places.contains(&place), "{place}");
     }
     let streams = (1..=40).map(short);
-    let places: BTreeSet<usize> = streams.flat_map(|stream| damaged_places(&stream)).collect();
-    assert!(places.is_superset(&(20..32).chain(1_080..1_088).collect()));
+    let places: BTreeSet<_> = streams.flat_map(|stream| damaged_places(&stream)).collect();
+    for place in 20..32 {
+        let damaged = [1_088, 4_160].map(|length| (length, place));
+        assert!(damaged.iter().any(|damaged| places.contains(damaged)));
+    }
+    for (length, last) in [(1_088, 1_080..1_088), (4_160, 4_152..4_160)] {
+        for damaged in last.map(|place| (length, place)) {
+            assert!(places.contains(&damaged), "{damaged:?}");
+        }
+    }
 }
 
 #[test]
@@ -1239,7 +1265,7 @@ fn the_pages_break_the_rules_that_they_say() {
     assert_eq!(several, set(1..=7));
     let short: BTreeSet<u8> = main_pages().iter().map(|(rule, _)| *rule).collect();
     assert_eq!(short, set(0..=8));
-    for payload in without_meaning() {
+    for payload in without_meaning().into_iter().chain(more_without_meaning()) {
         assert_eq!(read_raw(&payload), None);
     }
 }
@@ -1251,7 +1277,7 @@ fn asked(seed: u64) -> impl Iterator<Item = Asked> {
 #[test]
 fn every_page_has_its_raw_bytes() {
     for Asked { after, .. } in (1..=3).flat_map(asked) {
-        assert_eq!(read_raw(&write_raw(&after)), Some(after));
+        assert_eq!(read_raw(&write_raw(&after)).as_ref(), Some(&*after));
     }
 }
 
@@ -1272,9 +1298,9 @@ fn a_refused_request_changes_nothing_and_soundness_stays() {
 fn by_value_and_lent_agree() {
     for asked in asked(7) {
         if let Ok(request) = read_request(&asked.bytes) {
-            let outcome = step(asked.before, &request);
+            let outcome = step((*asked.before).clone(), &request);
             assert_eq!(outcome.answer, asked.answer);
-            assert_eq!(outcome.page, asked.after);
+            assert_eq!(outcome.page, *asked.after);
         }
     }
 }
@@ -1282,10 +1308,11 @@ fn by_value_and_lent_agree() {
 #[test]
 fn the_census_adds_up() {
     for Asked { after, .. } in asked(8) {
-        let readers: u8 = census(&after).as_flattened().iter().map(|n| n.0).sum();
+        let census = census(&after);
+        let readers = census.as_flattened().iter().map(|n| usize::from(n.0));
         let listed = after.shared_state.listed().len();
         let sound = lowest_broken_rule(&after).is_none();
-        assert_eq!(usize::from(readers), if sound { listed } else { 0 });
+        assert_eq!(readers.sum::<usize>(), if sound { listed } else { 0 });
     }
 }
 

@@ -46,7 +46,7 @@ fn an_empty_list_is_blank() {
     let none = Readers::none();
     assert_eq!(none.length, 0);
     assert!(none.listed().is_empty());
-    assert_eq!(none.past(), [pending(0); 64]);
+    assert_eq!(none.past(), [pending(0); 256]);
 }
 
 #[test]
@@ -54,7 +54,7 @@ fn a_new_reader_goes_at_the_end() {
     let readers = list(&[3, 1, 2]);
     assert_eq!(readers.length, 3);
     assert_eq!(readers.listed(), [pending(3), pending(1), pending(2)]);
-    assert_eq!(readers.past(), [pending(0); 61]);
+    assert_eq!(readers.past(), [pending(0); 253]);
 }
 
 // Removal.
@@ -78,7 +78,7 @@ fn the_last_one_moves_into_the_gap() {
     for (place, left) in left.into_iter().enumerate() {
         let readers = without(list_of(&five()), place);
         assert_eq!(readers, list_of(&left), "place {place}");
-        assert_eq!(readers.past(), [pending(0); 60]);
+        assert_eq!(readers.past(), [pending(0); 252]);
     }
 }
 
@@ -98,15 +98,15 @@ fn the_only_one_leaves_an_empty_list() {
 
 #[test]
 fn one_leaves_a_full_list() {
-    let full = list_of(&[&five()[..], &[pending(3); 58], &[pending2(2)]].concat());
-    assert_eq!(full.length, 64);
+    let full = list_of(&[&five()[..], &[pending(3); 250], &[pending2(2)]].concat());
+    assert_eq!(full.length, 256);
     let [a, b, c, d, e] = five();
-    let first = [&[pending2(2), b, c, d, e][..], &[pending(3); 58]].concat();
+    let first = [&[pending2(2), b, c, d, e][..], &[pending(3); 250]].concat();
     assert_eq!(without(full.clone(), 0), list_of(&first));
-    let middle = [&[a, b, pending2(2), d, e][..], &[pending(3); 58]].concat();
+    let middle = [&[a, b, pending2(2), d, e][..], &[pending(3); 250]].concat();
     assert_eq!(without(full.clone(), 2), list_of(&middle));
-    let last = [&five()[..], &[pending(3); 58]].concat();
-    assert_eq!(without(full, 63), list_of(&last));
+    let last = [&five()[..], &[pending(3); 250]].concat();
+    assert_eq!(without(full, 255), list_of(&last));
 }
 
 /// Of the others one stands between the equal ones, and one last.
@@ -129,8 +129,8 @@ fn the_first_of_several_equal_goes() {
 /// place has after a removal at each place, from lists of every length.
 #[test]
 fn every_other_place_stays_as_it_is() {
-    let entries: [_; 64] = std::array::from_fn(|place| obtained(1, place as u64 + 1));
-    for length in 1..=64 {
+    let entries: [_; 256] = std::array::from_fn(|place| obtained(1, place as u64 + 1));
+    for length in 1..=256 {
         for gap in 0..length {
             let before = Readers {
                 length: length as u16,
@@ -172,7 +172,7 @@ fn a_reader_that_changes_keeps_its_place() {
 
 #[test]
 fn a_length_above_the_capacity_lists_every_place() {
-    for length in [64, 65, 65_535] {
+    for length in [256, 257, 65_535] {
         let mut readers = list(&[2]);
         readers.length = length;
         assert_eq!(readers.listed(), readers.entries);
@@ -235,10 +235,10 @@ fn a_full_list_is_searched_to_its_end() {
     for sought in each_phase(1) {
         for other in each_phase(1).into_iter().chain(each_phase(2)) {
             if other != sought {
-                let mut full = list_of(&[other; 64]);
+                let mut full = list_of(&[other; 256]);
                 assert_eq!(full.find(sought), None);
-                full.change(63, sought);
-                assert_eq!(full.find(sought), Some(63));
+                full.change(255, sought);
+                assert_eq!(full.find(sought), Some(255));
             }
         }
     }
@@ -247,7 +247,7 @@ fn a_full_list_is_searched_to_its_end() {
 #[test]
 fn what_lies_past_the_length_is_not_found() {
     for sought in each_phase(1) {
-        for length in 0..64 {
+        for length in 0..256 {
             let mut readers = list(&vec![2; length]);
             readers.entries[length..].fill(sought);
             assert_eq!(readers.find(sought), None);
@@ -259,12 +259,12 @@ fn what_lies_past_the_length_is_not_found() {
 
 #[test]
 fn a_length_above_the_capacity_looks_at_every_place() {
-    for length in [64, 65, 65_535] {
+    for length in [256, 257, 65_535] {
         for sought in each_phase(1) {
-            let mut readers = list(&[2; 64]);
+            let mut readers = list(&[2; 256]);
             readers.length = length;
             assert_eq!(readers.find(sought), None);
-            for place in (0..64).rev() {
+            for place in (0..256).rev() {
                 readers.change(place, sought);
                 assert_eq!(readers.find(sought), Some(place));
             }

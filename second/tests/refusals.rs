@@ -231,23 +231,23 @@ fn number_9() {
 #[test]
 fn number_10() {
     let full = Err(Refusal::CountFull);
-    let readers = crowded(fresh(0), [31, 0, 0, 0]);
+    let readers = crowded(fresh(0), [127, 0, 0, 0]);
     assert_eq!(refusal(&readers, 19, 0, 0, 0), full);
-    let loading = crowded(after(&[(11, 0, 0, 0)]), [0, 31, 0, 0]);
+    let loading = crowded(after(&[(11, 0, 0, 0)]), [0, 127, 0, 0]);
     assert_eq!(refusal(&loading, 13, 1, 0, 0), full);
-    let editing = crowded(editor(), [0, 0, 0, 31]);
+    let editing = crowded(editor(), [0, 0, 0, 127]);
     assert_eq!(refusal(&editing, 18, 3, 0, 0), full);
 }
 
 #[test]
 fn number_11() {
     let full = Err(Refusal::ListFull);
-    let readers = crowded(fresh(0), [16; 4]);
+    let readers = crowded(fresh(0), [64; 4]);
     assert_eq!(refusal(&readers, 19, 0, 0, 0), full);
     let loading = after(&[(11, 0, 0, 0), (13, 1, 0, 0), (14, 0, 0, 0)]);
-    let loading = crowded(loading, [16; 4]);
+    let loading = crowded(loading, [64; 4]);
     assert_eq!(refusal(&loading, 16, 0, 0, 1), full);
-    let editing = crowded(counted_editor(), [16; 4]);
+    let editing = crowded(counted_editor(), [64; 4]);
     assert_eq!(refusal(&editing, 9, 0, 0, 1), full);
     assert_eq!(refusal(&editing, 9, 0, 0, 7), full);
     for number in [10, 29, 30] {
@@ -256,7 +256,7 @@ fn number_11() {
     }
     assert!(step(loading, &Request::new(17, 0, 0, 1)).answer.is_ok());
     let claimed = step(counted_editor(), &Request::new(10, 0, 0, 7)).page;
-    let claimed = crowded(claimed, [16; 4]);
+    let claimed = crowded(claimed, [64; 4]);
     assert_eq!(refusal(&claimed, 26, 0, 0, 0), full);
     assert!(step(claimed, &Request::new(25, 0, 0, 0)).answer.is_ok());
 }
@@ -278,26 +278,26 @@ fn number_17() {
 
 #[test]
 fn the_lower_of_two_is_given() {
-    let full_bucket = crowded(fresh(0), [31, 0, 0, 0]);
+    let full_bucket = crowded(fresh(0), [127, 0, 0, 0]);
     assert_eq!(refusal(&full_bucket, 13, 0, 0, 0), Err(Refusal::NoHolder));
-    let full_bucket = crowded(counted_editor(), [31, 0, 0, 0]);
+    let full_bucket = crowded(counted_editor(), [127, 0, 0, 0]);
     assert_eq!(
         refusal(&full_bucket, 18, 0, 0, 0),
         Err(Refusal::HolderBucket)
     );
-    let full_list = crowded(editor(), [16; 4]);
+    let full_list = crowded(editor(), [64; 4]);
     assert_eq!(refusal(&full_list, 9, 0, 0, 0), Err(Refusal::HolderBucket));
-    for full_list in prefetches().map(|page| crowded(page, [16; 4])) {
+    for full_list in prefetches().map(|page| crowded(page, [64; 4])) {
         assert_eq!(refusal(&full_list, 16, 0, 0, 0), Err(Refusal::HolderBucket));
     }
-    let full_list = crowded(loaded_then(&[(3, 0, 0, 0)]), [16; 4]);
+    let full_list = crowded(loaded_then(&[(3, 0, 0, 0)]), [64; 4]);
     assert_eq!(refusal(&full_list, 26, 0, 0, 0), Err(Refusal::HolderBucket));
-    let full_list = crowded(fresh(0), [31, 31, 2, 0]);
+    let full_list = crowded(fresh(0), [127, 127, 2, 0]);
     assert_eq!(refusal(&full_list, 26, 0, 0, 0), Err(Refusal::NoHolder));
     assert_eq!(refusal(&full_list, 16, 0, 0, 0), Err(Refusal::NoHolder));
     assert_eq!(refusal(&full_list, 19, 0, 0, 0), Err(Refusal::CountFull));
     assert_eq!(refusal(&full_list, 19, 2, 0, 0), Err(Refusal::ListFull));
-    let full_list = crowded(counted_editor(), [16; 4]);
+    let full_list = crowded(counted_editor(), [64; 4]);
     assert_eq!(refusal(&full_list, 9, 0, 0, 1), Err(Refusal::ListFull));
     assert_eq!(refusal(&full_list, 10, 0, 0, 1), Err(Refusal::OtherValue));
     assert_eq!(refusal(&editor(), 10, 0, 0, 1), Err(Refusal::HolderBucket));
@@ -335,7 +335,7 @@ fn the_first_equal_reader_is_the_one() {
 fn a_loader_leaves_and_takes_its_own_reference() {
     let loading = |bucket| after(&[(11, 0, 0, 0), (13, bucket, 0, 0), (14, 0, 0, 0)]);
     for page in (0..4).map(loading).chain(prefetches()) {
-        for readers in [[0; 4], [3, 0, 0, 0], [1, 2, 0, 5], [30, 30, 2, 2]] {
+        for readers in [[0; 4], [3, 0, 0, 0], [1, 2, 0, 5], [126, 126, 2, 2]] {
             let before = checked(crowded(page.clone(), readers));
             let expected = Page {
                 storage: Some(9),
@@ -512,7 +512,7 @@ fn streams_give_the_lowest_number_that_applies() {
 fn every_request_on_many_records_gets_the_lowest_number() {
     for Asked { before, .. } in asked(9).step_by(20) {
         for request in all_small_requests(value_of(&before)) {
-            let answer = step(before.clone(), &request).answer;
+            let answer = step((*before).clone(), &request).answer;
             assert_eq!(answer_number(&answer), lowest(&before, &request));
         }
     }

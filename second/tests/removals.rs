@@ -136,7 +136,7 @@ fn the_last_reader_takes_the_place_of_one_that_leaves() {
     for number in REMOVALS {
         let request = leaving(number, 2);
         let reader = leaver(&request).unwrap();
-        for length in [1, 2, 3, 4, 5, 8, 63, 64] {
+        for length in [1, 2, 3, 4, 5, 8, 64, 65, 255, 256] {
             for place in 0..length {
                 let mut list = others(length);
                 list[place] = reader;
@@ -152,8 +152,10 @@ fn the_first_of_two_equal_readers_leaves() {
     for number in REMOVALS {
         let request = leaving(number, 2);
         let reader = leaver(&request).unwrap();
-        for length in [2, 3, 6, 64] {
-            for second in 1..length {
+        for length in [2, 3, 6, 65, 256] {
+            // Of a long list some, and the last one.
+            let places = (1..length).filter(|place| length < 256 || place % 51 == 0);
+            for second in places {
                 for first in 0..second {
                     let mut list = others(length);
                     list[first] = reader;
@@ -207,7 +209,7 @@ fn streams_leave_the_exact_lists() {
             let reader = leaver(&request).unwrap();
             let place = list.iter().position(|&other| other == reader).unwrap();
             assert_eq!(withdrawn, None);
-            assert_eq!(asked.after, expected(&asked.before, &request, place));
+            assert_eq!(*asked.after, expected(&asked.before, &request, place));
             list.remove(place);
             seen[turn] += 1;
             told_apart[turn] += u32::from(asked.after.shared_state != list_of(&list));
@@ -375,12 +377,15 @@ fn draw(random: &mut Random, page: &Page) -> Request {
     Request::new(number, bucket, clean, value)
 }
 
+/// From an empty list, from one that is almost full, and where buckets are.
 #[test]
 fn drawn_requests_do_not_tell_the_order() {
     let mut apart = Apart::default();
-    for seed in 1..=4 {
+    let bucket = vec![pending(2); 124];
+    let two = [vec![obtained(0); 125], vec![pending2(3); 125]].concat();
+    for (seed, start) in (1..).zip([vec![], others(252), bucket, two]) {
         let mut random = Random::new(seed);
-        let mut page = page(&[]);
+        let mut page = page(&start);
         let mut beside = Beside::start(&page);
         for _ in 0..3_000 {
             let request = draw(&mut random, &page);
@@ -411,7 +416,7 @@ fn streams_do_not_tell_the_order() {
             if let Ok(request) = read_request(&asked.bytes) {
                 ask_both(&mut page, &mut beside, &request, &mut apart);
             }
-            assert_eq!(page, asked.after);
+            assert_eq!(page, *asked.after);
         }
     }
     assert!(apart.requests > 20_000, "{apart:?}");

@@ -272,7 +272,7 @@ const PUT_IN: [(bool, StoredType); 6] = [
 fn steps_29_and_30_put_the_page_in_and_leave() {
     for (number, flag) in [(29, Flag::Available), (30, Flag::Unmapped)] {
         for bucket in BUCKETS {
-            for readers in [[0; 4], [3, 0, 0, 0], [1, 2, 0, 5], [30, 30, 2, 2]] {
+            for readers in [[0; 4], [3, 0, 0, 0], [1, 2, 0, 5], [126, 126, 2, 2]] {
                 for (clean, value) in PUT_IN {
                     let before = editing(bucket, clean, &crowd(readers));
                     let after = Page {
@@ -292,14 +292,14 @@ fn steps_29_and_30_put_the_page_in_and_leave() {
 #[test]
 fn a_count_at_the_ceiling_goes_down_by_one() {
     let own = Some(BucketId(2));
-    let readers = crowd([31, 1, 30, 2]);
+    let readers = crowd([127, 1, 126, 2]);
     let claimed = page(Flag::Claimed, claim(own), &readers);
     let edited = editing(own, false, &readers);
-    assert_eq!(readers.len(), 64);
+    assert_eq!(readers.len(), 256);
     for (before, number) in [(&claimed, 25), (&edited, 29), (&edited, 30)] {
         assert_eq!(before.ref_counts[2], CEILING);
         let after = step(before.clone(), &Request::new(number, 0, 0, 0)).page;
-        assert_eq!(after.ref_counts.map(|count| count.0), [31, 1, 30, 2]);
+        assert_eq!(after.ref_counts.map(|count| count.0), [127, 1, 126, 2]);
         assert_eq!(after.shared_state, before.shared_state);
     }
 }
@@ -486,7 +486,7 @@ fn number_6() {
 
 #[test]
 fn number_7_is_for_26_alone() {
-    let full = crowd([16; 4]);
+    let full = crowd([64; 4]);
     for readers in [&[][..], &[obtained(0)], &full] {
         for flag in [Flag::Claimed, Flag::WritebackAndClaimed] {
             let before = page(flag, claim(None), readers);
@@ -501,13 +501,13 @@ fn number_7_is_for_26_alone() {
 #[test]
 fn number_11_is_for_26_alone() {
     let own = Some(BucketId(0));
-    for readers in [[16; 4], [30, 31, 3, 0]] {
+    for readers in [[64; 4], [126, 127, 3, 0]] {
         let full = crowd(readers);
         for flag in [Flag::Claimed, Flag::WritebackAndClaimed] {
             let before = page(flag, claim(own), &full);
             let request = Request::new(26, 0, 0, 0);
             assert_eq!(refusal(&before, &request), Err(Refusal::ListFull));
-            let roomy = page(flag, claim(own), &full[..63]);
+            let roomy = page(flag, claim(own), &full[..255]);
             assert_eq!(step(roomy, &request).answer, Ok(None));
             let answer = step(before, &Request::new(25, 0, 0, 0)).answer;
             assert_eq!(answer, Ok(None));
@@ -523,7 +523,7 @@ fn number_11_is_for_26_alone() {
 #[test]
 fn number_17_is_for_29_and_30_alone() {
     for bucket in BUCKETS {
-        for readers in [[0; 4], [30, 30, 2, 2]] {
+        for readers in [[0; 4], [126, 126, 2, 2]] {
             let before = editing(bucket, true, &crowd(readers));
             for number in [29, 30] {
                 for value in [0, 1, VALUE ^ 1 << 63, StoredType::MAX] {
@@ -600,7 +600,7 @@ fn streams_leave_what_the_table_says() {
                 if request.step >= 25 {
                     seen[usize::from(request.step) - 25] += 1;
                     assert_eq!(withdrawn, None);
-                    assert_eq!(asked.after, expected(&asked.before, &request));
+                    assert_eq!(*asked.after, expected(&asked.before, &request));
                 }
             }
         }

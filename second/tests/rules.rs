@@ -359,33 +359,82 @@ fn crowd(numbers: [usize; 4]) -> Page {
     record(Flag::Unmapped, None, None, None, &readers)
 }
 
+/// 256 readers at a bucket are more than its byte can say, and not 0.
+#[test]
+fn rule_5_past_a_byte() {
+    let mut page = crowd([0, 255, 0, 0]);
+    page.shared_state.push(SharedState::Pending {
+        bucket: BucketId(1),
+    });
+    for count in [0, 1, 127, 255] {
+        page.ref_counts[1] = Count(count);
+        broken(&page, 5);
+    }
+    page.flag = Flag::Claimed;
+    page.exc_state = Some(claim(at(1)));
+    for count in [0, 1, 2] {
+        page.ref_counts[1] = Count(count);
+        broken(&page, 5);
+    }
+}
+
+/// A holder counts, too, and is not a reader.
+#[test]
+fn rule_8_counts_with_a_holder() {
+    let readers = |number| vec![SharedState::BLANK; number];
+    let claimed = |number| {
+        record(
+            Flag::Claimed,
+            Some(claim(at(0))),
+            None,
+            None,
+            &readers(number),
+        )
+    };
+    assert!(sound(&claimed(126)));
+    broken(&claimed(127), 8);
+    let loader = Some(LoadingState::Obtained { bucket: at(0) });
+    let loading = |number| record(Flag::Loading, None, loader, None, &readers(number));
+    assert!(sound(&loading(126)));
+    broken(&loading(127), 8);
+    let mut full = crowd([64, 64, 64, 64]);
+    full.flag = Flag::Claimed;
+    full.exc_state = Some(claim(at(2)));
+    full.ref_counts[2] = Count(65);
+    assert!(sound(&full), "256 readers, and a claim");
+}
+
 #[test]
 fn rule_8_counts() {
-    assert!(sound(&crowd([31, 31, 2, 0])));
+    assert!(sound(&crowd([127, 127, 2, 0])));
     for bucket in 0..4 {
         let mut numbers = [0; 4];
-        numbers[bucket] = 31;
+        numbers[bucket] = 127;
         assert!(sound(&crowd(numbers)));
-        numbers[bucket] = 32;
-        broken(&crowd(numbers), 8);
+        for over in [128, 129, 255] {
+            numbers[bucket] = over;
+            broken(&crowd(numbers), 8);
+        }
     }
 }
 
 /// A length above the capacity lists all places and no more.
 #[test]
 fn rule_8_length() {
-    let mut page = crowd([16, 16, 16, 16]);
+    let mut page = crowd([64, 64, 64, 64]);
     assert!(sound(&page));
-    for length in [65, 66, 255, 256, 65_535] {
+    for length in [257, 258, 511, 512, 65_535] {
         page.shared_state.length = length;
-        assert_eq!(page.shared_state.listed().len(), 64);
+        assert_eq!(page.shared_state.listed().len(), 256);
         assert!(page.shared_state.past().is_empty());
         broken(&page, 8);
     }
-    page.shared_state.length = 63;
-    broken(&page, 5);
+    for length in [0, 1, 64, 255] {
+        page.shared_state.length = length;
+        broken(&page, 5);
+    }
     let mut page = fresh(VALUE);
-    page.shared_state.length = 65;
+    page.shared_state.length = 257;
     broken(&page, 5);
 }
 
@@ -410,9 +459,9 @@ fn rule_8_blanks() {
             value: VALUE,
         },
     ];
-    for readers in [0, 1, 30] {
+    for readers in [0, 1, 62, 63, 126] {
         for entry in other {
-            for place in [readers, readers + 1, 63] {
+            for place in [readers, readers + 1, 130, 255] {
                 let mut page = crowd([0, readers, 0, 0]);
                 assert!(sound(&page));
                 page.shared_state.entries[place] = entry;
@@ -446,4 +495,8 @@ fn the_census_counts_readers_by_bucket_and_phase() {
     let page = record(Flag::Available, None, None, None, &readers);
     let rows = census(&page).map(|row| row.map(|count| count.0));
     assert_eq!(rows, [[2, 0, 1], [0, 1, 0], [0, 0, 0], [0, 1, 2]]);
+    let full = census(&crowd([127, 0, 2, 127]));
+    let rows = full.map(|row| row.map(|count| count.0));
+    assert_eq!(rows, [[127, 0, 0], [0, 0, 0], [2, 0, 0], [127, 0, 0]]);
+    assert_eq!(census(&crowd([128, 0, 2, 126])), [[Count(0); 3]; 4]);
 }

@@ -27,7 +27,7 @@ use Rattle.lock.proofs.Least.{least-number}
 use Rattle.wire.specs.Bytes.{lineWith}
 use Rattle.image.specs.Images.{kindBytes, countBytes, valueBytes, entries, imageOf}
 use Rattle.image.specs.Decoding.{u64At, excFromBytes, headFrom, readerFrom, readersFrom, pageFrom}
-use Rattle.image.specs.Keeping.{isImage, readVerdict, restoredFrom}
+use Rattle.image.specs.Keeping.{knownSize, limitsBy, isImage, readVerdict, restoredFrom}
 use Rattle.image.specs.Samples.{editingClean, value}
 use Rattle.replay.specs.Run.{runVerdict}
 use Rattle.pieces.specs.Carries.{isValid, finishOf}
@@ -158,7 +158,8 @@ pub clean-read-exhibited : T (isEditing (restoredFrom (editingClean .bytes) .pag
     × T (excClean (restoredFrom (editingClean .bytes) .page .«exc_state»))
     × FirstBack requests (restoredFrom (editingClean .bytes) .page) (put 9 6 ∷ []) (put 9 value)
 unfolding stepOf lookFor editedIn judged decideOf soughtOf soundOf lowestBroken noReaders pushed putAt removedAt freshPage
-    imageOf kindBytes countBytes valueBytes entries lineWith pageFrom headFrom excFromBytes u64At readerFrom readersFrom isImage readVerdict
+    imageOf kindBytes countBytes valueBytes entries lineWith pageFrom headFrom excFromBytes u64At readerFrom readersFrom knownSize limitsBy isImage
+    readVerdict
     restoredFrom flagFrom storageFrom bucketFrom phaseFrom excFrom loadingFrom writebackFrom
 clean-read-exhibited = (tt, tt, record { none-before = (tt, tt); back = tt })
 
@@ -170,6 +171,7 @@ flags-refused = tt
 -- pages that were read go on
 pub restarts-exhibited : T (every resumes resumed)
 unfolding stepOf lookFor editedIn judged decideOf soughtOf soundOf lowestBroken noReaders pushed putAt removedAt freshPage
-    imageOf kindBytes countBytes valueBytes entries lineWith pageFrom headFrom excFromBytes u64At readerFrom readersFrom isImage readVerdict
+    imageOf kindBytes countBytes valueBytes entries lineWith pageFrom headFrom excFromBytes u64At readerFrom readersFrom knownSize limitsBy isImage
+    readVerdict
     restoredFrom flagFrom storageFrom bucketFrom phaseFrom excFrom loadingFrom writebackFrom
 restarts-exhibited = tt

@@ -75,6 +75,7 @@ use Rattle.rules.proofs.loading_state_invariants.Reads as loading-state-invaria
 use Rattle.rules.proofs.storage_some_invariant.Reads as storage-some-invariant-contract
 use Rattle.rules.proofs.writeback_state_invariants.Reads as writeback-state-invariants-contract
 use Rattle.rules.proofs.limits_kept.Reads as limits-kept-contract
+use Rattle.rules.proofs.counts_under.Reads as counts-under-contract
 use Rattle.rules.proofs.ref_count_invariant.Reads as ref-count-invariant-contract
 use Rattle.rules.proofs.shared_storage_invariant.Reads as shared-storage-invariant-contract
 use Rattle.soundness.proofs.broken_rule.Reads as broken-rule-contract
@@ -366,6 +367,9 @@ writeback-state-invariants = equation _
 
 pub limits-kept : AtMostOne limits-kept-contract.Post
 limits-kept = equation _
+
+pub counts-under : AtMostOne counts-under-contract.Post
+counts-under = equation _
 
 pub ref-count-invariant : AtMostOne ref-count-invariant-contract.Post
 ref-count-invariant = equation _

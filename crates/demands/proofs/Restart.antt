@@ -1,16 +1,17 @@
 -- The demands for images, proved: the numbers and the round trips are those of `image`, and demand 3 from a page that was read is an
 -- instance of demand 3 from any sound page. Assumes nothing.
-use Prim.Native.Nat.{ℕ}
-use mathlib.Core.Path.{_≡_, refl, sym, ap, _∙_}
+use Prim.Native.Nat.{ℕ, _-_}
+use mathlib.Core.Path.{_≡_, refl, sym, ap, subst, _∙_}
 use mathlib.Core.Logic.{_↔_}
 use mathlib.Core.Bool.{Bool, true, false, not, _||_, true≢false}
 use mathlib.Core.List.{List, _++_, append-nil}
 use native.Mathlib.Omega.{arith}
 use lib.Dec.{T}
-use lib.ListN.{length, drop, drop-of-length-le}
+use lib.ListN.{length, drop, replicate, drop-of-length-le}
+use Rattle.laws.specs.Tables.{appliesIn}
 use Rattle.laws.proofs.Tests.{to-true}
 use Rattle.laws.proofs.Tables.{first-lowest, first-none}
-use Rattle.kinds.specs.Limits.{capacity}
+use Rattle.kinds.specs.Limits.{capacity, shortCapacity, Limits, today, short}
 use Rattle.page_record.specs.declared.Page.{Page}
 use Rattle.soundness.specs.Soundness.{soundOf}
 use Rattle.requests.specs.declared.Answer.{Answer}
@@ -18,14 +19,17 @@ use Rattle.requests.specs.Premises.{verdict}
 use Rattle.requests.proofs.Verdicts.{passed}
 use Rattle.wire.specs.Bytes.{Bytes}
 use Rattle.wire.proofs.Premises.{answer-passed}
-use Rattle.image.specs.Images.{wholeSize, imageOf, InRange}
-use Rattle.image.specs.Keeping.{restoredFrom, keepable, keptAnswer, keptIn}
+use Rattle.image.specs.Images.{wholeSize, shortBy, imageOf, InRange}
+use Rattle.image.specs.Keeping.{limitsBy, ImageUnder, restoredFrom, keepable, keptAnswer, keptIn}
 use Rattle.image.specs.Applies.{isSoundImage, applyingRead, applyingWrite}
-use Rattle.image.proofs.Trips.{length-image, in-range, Accepted, accepted, refused-fresh, restored-sound, write-read, read-write, image-iff}
-use Rattle.image.proofs.Trips.{four-refused, accepts-images, image-injective}
+use Rattle.image.proofs.Rooms.{length-image, image-longer}
+use Rattle.image.proofs.Lengths.{by-short, by-other, sound-today}
+use Rattle.image.proofs.Trips.{in-range, Accepted, accepted, refused-fresh, restored-sound, four-refused, write-read, read-write}
+use Rattle.image.proofs.Trips.{image-iff, accepts-images, image-injective}
+use Rattle.image.proofs.Short.{short-read}
 use Rattle.image.proofs.Written.{write-whole, write-untouched, write-first, write-past}
 use Rattle.image.proofs.Least.{read-number, read-plain, write-number, write-plain}
-use Rattle.demands.specs.Restart.{restored, Demand1Image, Demand1Keep, Demand2Image, Demand3Image}
+use Rattle.demands.specs.Restart.{Long, restored, Demand1Image, Demand1Keep, Demand2Image, Demand2Short, Demand3Image}
 use Rattle.demands.proofs.Demand1.{accepts-none}
 use Rattle.demands.proofs.Demand3.{demand3-from}
 use Rattle.demands.proofs.Lines.{demand3-runs-from}
@@ -37,14 +41,22 @@ last-row : (t : Bool) → ((not t || false) ≡ false) ↔ T t
 last-row true = (λ e. tt, λ t. refl)
 last-row false = (λ e. absurd (true≢false e), λ t. absurd t)
 
+-- under the limits that the length stands for
+sixteen-under : (l : List ℕ) (limits : Limits) → limitsBy (length l) ≡ limits → Bytes l
+    → (appliesIn (applyingRead l) 16 ≡ false) ↔ ImageUnder limits l
+sixteen-under l limits by bytes =
+    let iff = image-iff l bytes in (
+      λ e. subst (λ (x : Limits). ImageUnder x l) by (iff .0 (last-row (isSoundImage l) .0 e)),
+      λ t. last-row (isSoundImage l) .1 (iff .1 (subst (λ (x : Limits). ImageUnder x l) (sym by) t)),
+    )
+
 pub demand1-image : (l : List ℕ) → Demand1Image l
+unfolding soundOf
 demand1-image l = record {
   given = λ n k. rw (read-number l) (first-lowest (applyingRead l) tt n k);
   accepted = accepts-none _ (applyingRead l) (read-plain l) (read-number l) (first-none (applyingRead l) tt);
-  sixteen = λ bytes. (
-    λ e. image-iff l bytes .0 (last-row (isSoundImage l) .0 e),
-    λ t. last-row (isSoundImage l) .1 (image-iff l bytes .1 t),
-  );
+  sixteen = λ long. sixteen-under l today (by-other (length l) long);
+  sixteen-short = λ size. sixteen-under l short (ap limitsBy size ∙ by-short);
   four = four-refused l;
   fresh = refused-fresh l;
   sound = restored-sound l;
@@ -61,7 +73,16 @@ demand1-keep p buffer = record {
 }
 
 -- ---- demand 2
-module _ (l buffer : List ℕ) (p : Page) (bytes : Bytes l) (whole : length buffer ≡ wholeSize) where
+-- under the limits that the length stands for
+accepts-under : (l : List ℕ) (limits : Limits) → limitsBy (length l) ≡ limits → Bytes l
+    → ((p : Page) × (restoredFrom l ≡ restored p)) ↔ ImageUnder limits l
+accepts-under l limits by bytes = rw (← by) (accepts-images l bytes)
+
+-- read and written again
+wholly : (l : List ℕ) (p : Page) → Long l → restoredFrom l ≡ restored p → imageOf capacity p ≡ l
+wholly l p long e = subst (λ (x : Limits). imageOf (x .readers) p ≡ l) (by-other (length l) long) (accepted l p e .image)
+
+module _ (l buffer : List ℕ) (p : Page) (long : Long l) (bytes : Bytes l) (whole : length buffer ≡ wholeSize) where
   -- nothing of the buffer is left
   alone : imageOf capacity p ++ drop wholeSize buffer ≡ imageOf capacity p
   alone =
@@ -70,8 +91,8 @@ module _ (l buffer : List ℕ) (p : Page) (bytes : Bytes l) (whole : length buff
   there : restoredFrom l ≡ restored p → InRange p × (keptAnswer p buffer ≡ Answer.Accepted) × (keptIn p buffer ≡ l)
   there e =
       let a = accepted l p e in
-      let w = write-whole p buffer (to-true (soundOf p) (a .sound)) (omega arith) in
-      (rw (← a .page) (in-range l bytes), sym (w .0), sym (w .1) ∙ alone ∙ a .image)
+      let w = write-whole p buffer (to-true (soundOf p) (sound-today (length l) p (a .sound))) (omega arith) in
+      (rw (← a .page) (in-range l bytes), sym (w .0), sym (w .1) ∙ alone ∙ wholly l p long e)
 
   back : InRange p × (keptAnswer p buffer ≡ Answer.Accepted) × (keptIn p buffer ≡ l) → restoredFrom l ≡ restored p
   unfolding keptAnswer
@@ -80,12 +101,23 @@ module _ (l buffer : List ℕ) (p : Page) (bytes : Bytes l) (whole : length buff
       ap restoredFrom (sym (sym alone ∙ sym (write-first p buffer (w .1)) ∙ w .2)) ∙ write-read p (fits .0) (w .0)
 
 pub demand2-image : Demand2Image
+unfolding soundOf
 demand2-image = record {
   write-read = write-read;
-  read-write = read-write;
-  accepts-images = accepts-images;
+  read-write = wholly;
+  accepts-images = λ l long. accepts-under l today (by-other (length l) long);
   apart = image-injective;
-  agree = λ l buffer p bytes whole. (there l buffer p bytes whole, back l buffer p bytes whole);
+  agree = λ l buffer p long bytes whole. (there l buffer p long bytes whole, back l buffer p long bytes whole);
+}
+
+pub demand2-short : Demand2Short
+demand2-short = record {
+  lengthens = λ p few. image-longer shortCapacity capacity p few (omega arith);
+  short-read = λ l p size bytes. short-read l p bytes size;
+  short-write = λ l p size e.
+      let zeros : wholeSize - length l ≡ shortBy = omega arith in
+      read-write l p e ∙ ap (λ (n : ℕ). l ++ replicate n 0) zeros;
+  accepts-short = λ l size. accepts-under l short (ap limitsBy size ∙ by-short);
 }
 
 -- ---- demand 3

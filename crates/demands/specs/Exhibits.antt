@@ -260,14 +260,24 @@ crowded = unheld (Storage.In 0) Flag.Unmapped ceiling (listed (replicate ceiling
 abbrev pub share : ℕ
 share = capacity / buckets
 
-abbrev pub shareAt : ℕ → List Reader
-shareAt b = replicate share (pendingAt b)
+abbrev pub crowdAt : ℕ → ℕ → List Reader
+crowdAt n b = replicate n (pendingAt b)
 
 abbrev pub full : Page
 full =
     pageOf
     (headWith (Storage.In 0) Flag.Unmapped (replicate buckets (record { 0 = share })) ExcState.None LoadingState.None WritebackState.None)
-    (listed (shareAt 0 ++ shareAt 1 ++ shareAt 2 ++ shareAt 3))
+    (listed (crowdAt share 0 ++ crowdAt share 1 ++ crowdAt share 2 ++ crowdAt share 3))
+
+-- a full list with two buckets at their ceiling: 10 comes before 11
+abbrev pub doubly : Page
+doubly =
+    let rest = capacity - 2 * ceiling in
+    pageOf
+    (headWith (Storage.In 0) Flag.Unmapped
+    (record { 0 = ceiling } ∷ record { 0 = ceiling } ∷ record { 0 = rest } ∷ record { 0 = 0 } ∷ []) ExcState.None LoadingState.None
+    WritebackState.None)
+    (listed (crowdAt ceiling 0 ++ crowdAt ceiling 1 ++ crowdAt rest 2))
 
 -- a request on a page, and its number
 pub record Trial : Type 0 where
@@ -292,6 +302,7 @@ trials =
     ∷ record { page = pageUnder Flag.ExcLockClean; request = plain 8; number = 8 }
     ∷ record { page = after (pageUnder Flag.ExcLockClean) (at 19 0 ∷ []); request = plain 7; number = 9 }
     ∷ record { page = crowded; request = at 19 0; number = 10 }
+    ∷ record { page = doubly; request = at 19 0; number = 10 }
     ∷ record { page = full; request = at 19 0; number = 11 }
     ∷ record { page = led (claimsBare ++ editsClean); request = put 29 6; number = 17 }
     ∷ []

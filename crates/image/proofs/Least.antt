@@ -1,13 +1,15 @@
 -- Reading an image and writing one give the first number that applies: of 15 and 16 to the bytes (`read-number`), of 1 and 15 to the page
 -- and the buffer (`write-number`). Neither carries a value. Assumes nothing.
 use Prim.Native.Nat.{ℕ}
-use mathlib.Core.Bool.{false, Bool·not-not}
-use mathlib.Core.List.{List}
+use mathlib.Core.Bool.{Bool, false, not, Bool·not-not}
+use mathlib.Core.List.{List, [], _∷_}
 use mathlib.Core.Path.{_≡_, refl, ap, _∙_}
+use lib.Dec.{leb, ltb}
 use lib.ListN.{length}
 use Rattle.laws.specs.Tables.{firstApplying}
 use Rattle.laws.proofs.Orders.{leb-ltb}
 use Rattle.page_record.specs.declared.Page.{Page}
+use Rattle.soundness.specs.Soundness.{soundOf}
 use Rattle.requests.specs.declared.Verdict.{Verdict}
 use Rattle.requests.specs.Answers.{answerNumber, withdraws}
 use Rattle.requests.specs.Premises.{verdict}
@@ -42,7 +44,11 @@ module _ (p : Page) (l : List ℕ) where
   pub write-number : answerNumber (keptAnswer p l) ≡ firstApplying (applyingWrite p l)
   unfolding keptAnswer
   write-number =
-      answer-number (verdict (keepable p l)) ∙ verdict-number (keepable p l) ∙ rw (leb-ltb wholeSize (length l)) (simp Bool·not-not)
+      let room : not (leb wholeSize (length l)) ≡ ltb (length l) wholeSize =
+      ap not (leb-ltb wholeSize (length l)) ∙ Bool·not-not (ltb (length l) wholeSize) in
+      answer-number (verdict (keepable p l))
+      ∙ verdict-number (keepable p l)
+      ∙ ap (λ (t : Bool). firstApplying ((1, not (soundOf p)) ∷ (15, t) ∷ [])) room
 
   pub write-plain : withdraws (keptAnswer p l) ≡ false
   unfolding keptAnswer

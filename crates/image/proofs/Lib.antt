@@ -3,8 +3,11 @@ pub mod Decoded
 pub mod Compared
 pub mod Listing
 pub mod Heading
+pub mod Rooms
+pub mod Lengths
 pub mod Back
 pub mod Trips
+pub mod Short
 pub mod Written
 pub mod Least
 pub mod Samples

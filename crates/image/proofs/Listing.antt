@@ -1,5 +1,5 @@
--- Laws of the entries of a list, in this order: their lengths; that they are the readers' and zeros; the entry at a place; and one turn
--- of the loop that writes them. Assumes nothing.
+-- Laws of the entries of a list, in this order: their lengths; that they are the readers' and zeros; room for more of them; the entry at
+-- a place; and one turn of the loop that writes them. Assumes nothing.
 use Prim.Native.Nat.{ℕ, zero, suc, _+_, _*_, _-_, _<_, _≤_}
 use mathlib.Core.List.{List, [], _∷_, _++_, append-assoc}
 use mathlib.Core.Path.{_≡_, refl, sym, ap, _∙_}
@@ -56,6 +56,26 @@ entries-are (suc n) (r ∷ l) h =
     let same : n - length l ≡ suc n - suc (length l) = omega arith in
     ap (λ (z : List ℕ). entryOf r ++ z) (entries-are n l (omega arith) ∙ ap (λ (k : ℕ). entriesOf l ++ replicate (lineSize * k) 0) same)
     ∙ sym (append-assoc (entryOf r) (entriesOf l) (replicate (lineSize * (suc n - suc (length l))) 0))
+
+-- ---- room for more
+-- the entries of some room, and those of as much more
+pub entries-split : (n k : ℕ) (l : List Reader) → entries (n + k) l ≡ entries n l ++ entries k (drop n l)
+unfolding entries
+entries-split zero k l = let same : 0 + k ≡ k = omega arith in ap (λ (m : ℕ). entries m l) same
+entries-split (suc n) k l =
+    let more : suc n + k ≡ suc (n + k) = omega arith in
+    let next : 1 + n ≡ suc n = omega arith in
+    ap (λ (m : ℕ). entries m l) more
+    ∙ ap (λ (z : List ℕ). firstEntry l ++ z) (entries-split n k (drop 1 l))
+    ∙ ap (λ (s : List Reader). firstEntry l ++ (entries n (drop 1 l) ++ entries k s))
+    (drop-drop n 1 l ∙ ap (λ (m : ℕ). drop m l) next)
+    ∙ sym (append-assoc (firstEntry l) (entries n (drop 1 l)) (entries k (drop (suc n) l)))
+
+-- those of nobody
+pub entries-none : (n : ℕ) → entries n [] ≡ replicate (lineSize * n) 0
+entries-none n =
+    let all : n - 0 ≡ n = omega arith in
+    entries-are n [] (omega arith) ∙ ap (λ (k : ℕ). replicate (lineSize * k) 0) all
 
 -- ---- the entry at a place
 module _ (items : List Reader) (len i : ℕ) where

@@ -7,11 +7,11 @@ use Rattle.soundness.specs.Soundness.{soundOf, lowestBroken}
 use Rattle.wire.specs.Bytes.{lineWith}
 use Rattle.image.specs.Images.{kindBytes, countBytes, valueBytes, entries, imageOf}
 use Rattle.image.specs.Decoding.{u64At, excFromBytes, headFrom, readerFrom, readersFrom, pageFrom}
-use Rattle.image.specs.Keeping.{isImage, readVerdict, restoredFrom, keptAnswer}
+use Rattle.image.specs.Keeping.{knownSize, limitsBy, isImage, readVerdict, restoredFrom, keptAnswer}
 use Rattle.image.specs.Samples.{shown}
 
 pub samples-shown : T shown
-unfolding imageOf kindBytes countBytes valueBytes entries lineWith pageFrom headFrom excFromBytes u64At readerFrom readersFrom isImage
-    readVerdict restoredFrom keptAnswer flagFrom storageFrom bucketFrom phaseFrom excFrom loadingFrom writebackFrom soundOf lowestBroken noReaders
+unfolding imageOf kindBytes countBytes valueBytes entries lineWith pageFrom headFrom excFromBytes u64At readerFrom readersFrom knownSize limitsBy
+    isImage readVerdict restoredFrom keptAnswer flagFrom storageFrom bucketFrom phaseFrom excFrom loadingFrom writebackFrom soundOf lowestBroken noReaders
     freshPage
 samples-shown = tt

@@ -1,20 +1,20 @@
--- Writing and reading an image undo each other. In this order: how long an image is; that the page of a sound page's image is that page
--- (`page-back`), part by part over the number of readers; what an accepted reading tells; the round trips, that reading accepts exactly
--- the images of sound pages, and that no two of these share one. Assumes nothing.
+-- Writing and reading an image undo each other. In this order: that the page of a sound page's image is that page (`page-back`), part
+-- by part over the number of readers; what an accepted reading tells; the round trips, that reading accepts exactly the images of sound
+-- pages, and that no two of these share one. What is read is said over the limits that the length of the bytes stands for. Assumes nothing.
 use Prim.Native.Nat.{ℕ, zero, suc, _+_, _*_, _-_, _/_, _%_, _<_, _≤_}
-use mathlib.Core.Bool.{Bool, true, false, cond, _&&_}
+use mathlib.Core.Bool.{Bool, true, false, cond, _&&_, _||_}
 use mathlib.Core.List.{List, [], _∷_, _++_}
 use mathlib.Core.Logic.{_↔_}
 use mathlib.Core.Path.{_≡_, refl, sym, ap, subst, _∙_}
 use native.Mathlib.Omega.{arith}
 use borrow.Author.Tests.{eq-eqb}
-use lib.Dec.{T, eqb}
-use lib.ListN.{length, take, drop, getD, replicate, length-append, length-take}
+use lib.Dec.{T, eqb, leb→le}
+use lib.ListN.{length, take, drop, getD, replicate, length-take}
 use lib.Seq.{drop-at}
 use Rattle.laws.proofs.Tests.{to-true, is-true, both, halves, and-iff}
 use Rattle.kinds.specs.declared.{Visited.Visited, MaybeBucket.MaybeBucket, Storage.Storage, Phase.Phase, Reader.Reader}
 use Rattle.kinds.specs.declared.{ExcState.ExcState, WritebackState.WritebackState}
-use Rattle.kinds.specs.Limits.{lineSize, capacity}
+use Rattle.kinds.specs.Limits.{lineSize, capacity, ceiling, shortCapacity, Limits, today, short}
 use Rattle.kinds.specs.Numbers.{flagNumber, storageNumber, phaseNumber, excNumber, loadingNumber, writebackNumber}
 use Rattle.kinds.specs.Numbers.{flagFrom, storageFrom, bucketFrom, phaseFrom, excFrom, loadingFrom, writebackFrom}
 use Rattle.readers.specs.declared.Readers.{Readers}
@@ -22,10 +22,11 @@ use Rattle.readers.specs.Listed.{live, listed, blankReader}
 use Rattle.page_record.specs.declared.{Head.Head, Page.Page}
 use Rattle.page_record.specs.Holders.{valueOf, excVisited, excClean, excValue, writebackValue}
 use Rattle.page_record.specs.Pages.{headOf, headWith, pageOf, numberAt, freshPage}
-use Rattle.soundness.specs.Soundness.{soundOf}
+use Rattle.soundness.specs.Soundness.{soundUnder, fitsUnder, soundOf}
 use Rattle.soundness.proofs.Facts.{SoundPage}
 use Rattle.soundness.proofs.Known.{holders-within}
 use Rattle.soundness.proofs.Tested.{facts}
+use Rattle.soundness.proofs.Under.{sound-under}
 use Rattle.soundness.proofs.FreshPage.{fresh-sound}
 use Rattle.requests.specs.declared.{Refusal.Refusal, Answer.Answer, Verdict.Verdict}
 use Rattle.requests.proofs.Verdicts.{passed}
@@ -33,31 +34,16 @@ use Rattle.wire.specs.Bytes.{valueLimit, Bytes, number, lowBytes, lineWith}
 use Rattle.wire.proofs.Bytes.{number-lowBytes, number-below, bytes-take, bytes-drop}
 use Rattle.wire.proofs.Stores.{length-line-with}
 use Rattle.image.specs.Carried.{phaseValue, excBucketNumber, loadingBucketNumber}
-use Rattle.image.specs.Images.{headSize, imageSize, wholeSize, kindBytes, countBytes, valueBytes, entryOf, entries}
+use Rattle.image.specs.Images.{headSize, imageSize, wholeSize, shortSize, kindBytes, countBytes, valueBytes, entryOf, entries}
 use Rattle.image.specs.Images.{imageOf, InRange}
 use Rattle.image.specs.Decoding.{u64At, excFromBytes, headFrom, lengthFrom, readerFrom, readersFrom, pageFrom}
 use Rattle.image.specs.declared.Restored.{Restored}
-use Rattle.image.specs.Keeping.{sameBytes, isImage, readable, readVerdict, restoredAs, restoredFrom}
+use Rattle.image.specs.Keeping.{sameBytes, knownSize, limitsBy, isImage, ImageUnder, readable, readVerdict, restoredAs, restoredFrom}
 use Rattle.image.specs.Applies.{isSoundImage}
 use Rattle.image.proofs.Back.{flag-back, storage-back, writeback-back, phase-back, exc-back, loading-back, counts-back, length-back}
 use Rattle.image.proofs.Compared.{same-equal, same-refl}
-use Rattle.image.proofs.Heading.{length-kinds, length-counts, length-values}
-use Rattle.image.proofs.Listing.{length-entries}
-
--- ---- how long it is
-pub length-image : (n : ℕ) (p : Page) → length (imageOf n p) ≡ imageSize n
-unfolding imageOf
-length-image n p =
-    let h = headOf p in
-    let k = kindBytes h (p .readers .len) in
-    let e1 = length-append (k ++ countBytes h ++ valueBytes h) (entries n (live (p .readers))) in
-    let e2 = length-append (k ++ countBytes h) (valueBytes h) in
-    let e3 = length-append k (countBytes h) in
-    let a = length-kinds h (p .readers .len) in
-    let b = length-counts h in
-    let c = length-values h in
-    let d = length-entries n (live (p .readers)) in
-    omega arith
+use Rattle.image.proofs.Rooms.{length-image, image-longer}
+use Rattle.image.proofs.Lengths.{by-short, by-whole, within-today, known-whole, known-short, sound-today}
 
 -- ---- the head of an image is the page's
 -- what its bytes say, each place by what was written there
@@ -174,6 +160,22 @@ page-back-of n p t r fits most =
     (λ i. record { items = items i; len = len i }) ∙ sym (s .neat) in
     λ i. pageOf (head-back n p r s i) (readers i)
 
+-- under limits not above today's a sound page is sound today, and has few readers
+module _ (limits : Limits) (fewer : limits .readers ≤ capacity) (lower : limits .count ≤ ceiling) (p : Page) (t : T (soundUnder limits p)) where
+  pub parted : T (soundOf p) × T (fitsUnder limits p)
+  parted = halves (soundOf p) (fitsUnder limits p) (rw (← sound-under limits p fewer lower) t)
+
+  pub few-listed : length (live (p .readers)) ≤ limits .readers
+  few-listed =
+      let s = facts p (parted .0) in
+      let many : p .readers .len ≡ length (live (p .readers)) = ap (λ (rs : Readers). rs .len) (s .neat) in
+      let few = simp and-iff at (parted .1) in
+      let most = leb→le (p .readers .len) (limits .readers) (few .0) in
+      omega arith
+
+  pub page-back-under : InRange p → pageFrom (imageOf (limits .readers) p) ≡ p
+  page-back-under r = page-back-of (limits .readers) p (parted .0) r few-listed fewer
+
 -- today's
 pub page-back : (p : Page) → T (soundOf p) → InRange p → pageFrom (imageOf capacity p) ≡ p
 page-back p t r = page-back-of capacity p t r (facts p t .parts .room) (omega arith)
@@ -242,11 +244,11 @@ in-range l bytes = record {
 }
 
 -- ---- what a reading tells
--- an accepted one: the page that the bytes say, which is sound and has them as its image
+-- an accepted one: the page that the bytes say, which is sound under their limits and has them as its image
 pub record Accepted (l : List ℕ) (p : Page) : Type 0 where
   pub page : pageFrom l ≡ p
-  pub sound : T (soundOf p)
-  pub image : imageOf capacity p ≡ l
+  pub sound : T (soundUnder (limitsBy (length l)) p)
+  pub image : imageOf (limitsBy (length l) .readers) p ≡ l
 
 pub accepted : (l : List ℕ) (p : Page) → restoredFrom l ≡ record { answer = Answer.Accepted; page = p } → Accepted l p
 unfolding restoredFrom readVerdict isImage
@@ -255,12 +257,13 @@ accepted l p e = go (readVerdict (pageFrom l) l) refl
     go : (v : Verdict) → readVerdict (pageFrom l) l ≡ v → Accepted l p
     go Verdict.Passed f =
         let said = pageFrom l in
-        let h = halves (soundOf said) (isImage said l) (passed (readable said l) f .1 .0) in
+        let limits = limitsBy (length l) in
+        let h = halves (soundUnder limits said) (isImage said l) (passed (readable said l) f .1 .0) in
         let same : said ≡ p = ap (λ (r : Restored). r .page) (ap (restoredAs said) (sym f) ∙ e) in
         record {
           page = same;
-          sound = subst (λ (q : Page). T (soundOf q)) same (h .0);
-          image = sym (same-equal l (imageOf capacity said) (h .1) ∙ ap (imageOf capacity) same);
+          sound = subst (λ (q : Page). T (soundUnder limits q)) same (h .0);
+          image = sym (same-equal l (imageOf (limits .readers) said) (h .1) ∙ ap (imageOf (limits .readers)) same);
         }
     go (Verdict.Failed why) f =
         let w : Answer.Refused why ≡ Answer.Accepted = ap (λ (r : Restored). r .answer) (ap (restoredAs (pageFrom l)) (sym f) ∙ e) in
@@ -281,7 +284,10 @@ unfolding restoredFrom readVerdict
 restored-sound l = go (readVerdict (pageFrom l) l) refl
   where
     go : (v : Verdict) → readVerdict (pageFrom l) l ≡ v → T (soundOf (restoredAs (pageFrom l) v .page))
-    go Verdict.Passed f = halves (soundOf (pageFrom l)) (isImage (pageFrom l) l) (passed (readable (pageFrom l) l) f .1 .0) .0
+    go Verdict.Passed f =
+        let said = pageFrom l in
+        let size = length l in
+        sound-today size said (halves (soundUnder (limitsBy size) said) (isImage said l) (passed (readable said l) f .1 .0) .0)
     go (Verdict.Failed why) f = fresh-sound 0
 
 -- 4 is no exclusive holder's number, so no image has it at byte 4, and bytes that have it there are refused
@@ -296,64 +302,135 @@ byte-4 : (n : ℕ) (p : Page) → getD (imageOf n p) 4 0 ≡ excNumber (p .«exc
 unfolding imageOf kindBytes
 byte-4 n p = refl
 
-pub four-refused : (l : List ℕ) → length l ≡ wholeSize → getD l 4 0 ≡ 4 → restoredFrom l .answer ≡ Answer.Refused Refusal.NotAnImage
+pub four-refused : (l : List ℕ) → T (knownSize (length l)) → getD l 4 0 ≡ 4
+    → restoredFrom l .answer ≡ Answer.Refused Refusal.NotAnImage
 unfolding restoredFrom readVerdict isImage
-four-refused l long four = go (soundOf (pageFrom l) && isImage (pageFrom l) l) refl
+four-refused l known four = go (soundUnder (limitsBy (length l)) (pageFrom l) && isImage (pageFrom l) l) refl
   where
-    go : (t : Bool) → (soundOf (pageFrom l) && isImage (pageFrom l) l) ≡ t
+    go : (t : Bool) → (soundUnder (limitsBy (length l)) (pageFrom l) && isImage (pageFrom l) l) ≡ t
         → restoredAs (pageFrom l) (readVerdict (pageFrom l) l) .answer ≡ Answer.Refused Refusal.NotAnImage
     go true e =
         let said = pageFrom l in
-        let image = same-equal l (imageOf capacity said) (halves (soundOf said) (isImage said l) (is-true e) .1) in
-        let there : excNumber (said .«exc_state») ≡ 4 = sym (byte-4 capacity said) ∙ ap (λ (z : List ℕ). getD z 4 0) (sym image) ∙ four in
+        let n = limitsBy (length l) .readers in
+        let h = halves (soundUnder (limitsBy (length l)) said) (isImage said l) (is-true e) in
+        let image = same-equal l (imageOf n said) (h .1) in
+        let there : excNumber (said .«exc_state») ≡ 4 = sym (byte-4 n said) ∙ ap (λ (z : List ℕ). getD z 4 0) (sym image) ∙ four in
         absurd (no-number-4 (said .«exc_state») there)
-    go false e = rw (eq-eqb (length l) wholeSize long, e)
+    go false e = rw (to-true (knownSize (length l)) known, e)
 
 -- ---- there and back
+-- bytes that are judged well
+read-as : (l : List ℕ) (p : Page) → pageFrom l ≡ p → T (knownSize (length l)) → T (soundUnder (limitsBy (length l)) p) → T (isImage p l)
+    → restoredFrom l ≡ record { answer = Answer.Accepted; page = p }
+unfolding restoredFrom readVerdict
+read-as l p e known sound image =
+    ap (λ (q : Page). restoredAs q (readVerdict q l)) e
+    ∙ simp (
+      to-true (knownSize (length l)) known,
+      to-true (soundUnder (limitsBy (length l)) p) sound,
+      to-true (isImage p l) image,
+    )
+
+-- an image of known length that is that of its own limits
+module _ (limits : Limits) (own : limitsBy (imageSize (limits .readers)) ≡ limits) (known : T (knownSize (imageSize (limits .readers)))) where
+  pub write-read-under : (p : Page) → T (soundUnder limits p) → InRange p
+      → restoredFrom (imageOf (limits .readers) p) ≡ record { answer = Answer.Accepted; page = p }
+  unfolding isImage
+  write-read-under p t r =
+      let l = imageOf (limits .readers) p in
+      let long = length-image (limits .readers) p in
+      let by : limitsBy (length l) ≡ limits = ap limitsBy long ∙ own in
+      let among = within-today (imageSize (limits .readers)) in
+      let fewer = subst (λ (x : Limits). x .readers ≤ capacity) own (among .0) in
+      let lower = subst (λ (x : Limits). x .count ≤ ceiling) own (among .1) in
+      let same : sameBytes l (imageOf (limitsBy (length l) .readers) p) ≡ true =
+      ap (λ (x : Limits). sameBytes l (imageOf (x .readers) p)) by ∙ same-refl l in
+      read-as l p (page-back-under limits fewer lower p t r)
+      (subst (λ (n : ℕ). T (knownSize n)) (sym long) known)
+      (subst (λ (x : Limits). T (soundUnder x p)) (sym by) t)
+      (is-true same)
+
+-- today's, and a short one
 pub write-read : (p : Page) → T (soundOf p) → InRange p
     → restoredFrom (imageOf capacity p) ≡ record { answer = Answer.Accepted; page = p }
-unfolding restoredFrom readVerdict isImage
-write-read p t r =
-    let image = imageOf capacity p in
-    ap (λ (q : Page). restoredAs q (readVerdict q image)) (page-back p t r)
-    ∙ simp (eq-eqb (length image) wholeSize (length-image capacity p), to-true (soundOf p) t, same-refl image)
+unfolding soundOf
+write-read = write-read-under today by-whole known-whole
 
-pub read-write : (l : List ℕ) (p : Page) → restoredFrom l ≡ record { answer = Answer.Accepted; page = p } → imageOf capacity p ≡ l
-read-write l p e = accepted l p e .image
+pub write-read-short : (p : Page) → T (soundUnder short p) → InRange p
+    → restoredFrom (imageOf shortCapacity p) ≡ record { answer = Answer.Accepted; page = p }
+write-read-short = write-read-under short by-short known-short
+
+-- read and written again: the bytes, and zeros where they were few
+pub read-write : (l : List ℕ) (p : Page) → restoredFrom l ≡ record { answer = Answer.Accepted; page = p }
+    → imageOf capacity p ≡ l ++ replicate (wholeSize - length l) 0
+read-write l p e =
+    let a = accepted l p e in
+    let limits = limitsBy (length l) in
+    let among = within-today (length l) in
+    let long : length l ≡ imageSize (limits .readers) = ap length (sym (a .image)) ∙ length-image (limits .readers) p in
+    let zeros : lineSize * (capacity - limits .readers) ≡ wholeSize - length l = omega (arith, among .0) in
+    image-longer (limits .readers) capacity p (few-listed limits (among .0) (among .1) p (a .sound)) (among .0)
+    ∙ ap (λ (z : List ℕ). z ++ replicate (lineSize * (capacity - limits .readers)) 0) (a .image)
+    ∙ ap (λ (n : ℕ). l ++ replicate n 0) zeros
+
+-- ---- exactly the images of sound pages
+-- what such an image says, and what its length is
+module _ (l : List ℕ) (p : Page) (t : T (soundUnder (limitsBy (length l)) p)) (r : InRange p)
+    (e : imageOf (limitsBy (length l) .readers) p ≡ l) where
+  image-said : pageFrom l ≡ p
+  image-said =
+      let among = within-today (length l) in
+      ap pageFrom (sym e) ∙ page-back-under (limitsBy (length l)) (among .0) (among .1) p t r
+
+  image-same : T (isImage p l)
+  unfolding isImage
+  image-same =
+      let image = imageOf (limitsBy (length l) .readers) p in
+      is-true (ap (λ (z : List ℕ). sameBytes z image) (sym e) ∙ same-refl image)
+
+  image-known : T (knownSize (length l))
+  unfolding knownSize limitsBy
+  image-known = go (eqb (length l) shortSize) refl (ap length (sym e) ∙ length-image (limitsBy (length l) .readers) p)
+    where
+      go : (s : Bool) → eqb (length l) shortSize ≡ s → length l ≡ imageSize (cond s short today .readers)
+          → T (eqb (length l) shortSize || eqb (length l) wholeSize)
+      go true f g = rw f tt
+      go false f g = rw f (is-true (eq-eqb (length l) wholeSize g))
 
 -- bytes are the image of the page that they say, which is sound, just if they are the image of some sound page
-pub image-iff : (l : List ℕ) → Bytes l → T (isSoundImage l) ↔ ((p : Page) × T (soundOf p) × InRange p × (imageOf capacity p ≡ l))
+pub image-iff : (l : List ℕ) → Bytes l → T (isSoundImage l) ↔ ImageUnder (limitsBy (length l)) l
 unfolding isImage
 image-iff l bytes = (there, back)
   where
-    there : T (isSoundImage l) → (p : Page) × T (soundOf p) × InRange p × (imageOf capacity p ≡ l)
+    there : T (isSoundImage l) → ImageUnder (limitsBy (length l)) l
     there t =
         let said = pageFrom l in
-        let h = halves (soundOf said) (isImage said l) t in
-        (said, h .0, in-range l bytes, sym (same-equal l (imageOf capacity said) (h .1)))
+        let limits = limitsBy (length l) in
+        let h = halves (soundUnder limits said) (isImage said l) t in
+        (said, h .0, in-range l bytes, sym (same-equal l (imageOf (limits .readers) said) (h .1)))
 
-    back : (p : Page) × T (soundOf p) × InRange p × (imageOf capacity p ≡ l) → T (isSoundImage l)
+    back : ImageUnder (limitsBy (length l)) l → T (isSoundImage l)
     back t =
         let p = t .0 in
-        let said : pageFrom l ≡ p = ap pageFrom (sym (t .3)) ∙ page-back p (t .1) (t .2) in
-        let image : isImage p l ≡ true = ap (λ (z : List ℕ). sameBytes z (imageOf capacity p)) (sym (t .3)) ∙ same-refl (imageOf capacity p) in
-        subst (λ (q : Page). T (soundOf q && isImage q l)) (sym said) (both (soundOf p) (isImage p l) (t .1) (is-true image))
+        let limits = limitsBy (length l) in
+        subst (λ (q : Page). T (soundUnder limits q && isImage q l)) (sym (image-said l p (t .1) (t .2) (t .3)))
+        (both (soundUnder limits p) (isImage p l) (t .1) (image-same l p (t .1) (t .2) (t .3)))
 
--- reading accepts exactly the images of sound pages
+-- reading accepts exactly these
 pub accepts-images : (l : List ℕ) → Bytes l
-    → ((p : Page) × (restoredFrom l ≡ record { answer = Answer.Accepted; page = p }))
-    ↔ ((p : Page) × T (soundOf p) × InRange p × (imageOf capacity p ≡ l))
+    → ((p : Page) × (restoredFrom l ≡ record { answer = Answer.Accepted; page = p })) ↔ ImageUnder (limitsBy (length l)) l
 accepts-images l bytes = (there, back)
   where
-    there : (p : Page) × (restoredFrom l ≡ record { answer = Answer.Accepted; page = p })
-        → (p : Page) × T (soundOf p) × InRange p × (imageOf capacity p ≡ l)
+    there : (p : Page) × (restoredFrom l ≡ record { answer = Answer.Accepted; page = p }) → ImageUnder (limitsBy (length l)) l
     there t =
         let a = accepted l (t .0) (t .1) in
         (t .0, a .sound, subst InRange (a .page) (in-range l bytes), a .image)
 
-    back : (p : Page) × T (soundOf p) × InRange p × (imageOf capacity p ≡ l)
-        → (p : Page) × (restoredFrom l ≡ record { answer = Answer.Accepted; page = p })
-    back t = (t .0, rw (← t .3) (write-read (t .0) (t .1) (t .2)))
+    back : ImageUnder (limitsBy (length l)) l → (p : Page) × (restoredFrom l ≡ record { answer = Answer.Accepted; page = p })
+    back t =
+        let p = t .0 in
+        let said = image-said l p (t .1) (t .2) (t .3) in
+        (p, read-as l p said (image-known l p (t .1) (t .2) (t .3)) (t .1) (image-same l p (t .1) (t .2) (t .3)))
 
 -- no two of them share an image
 pub image-injective : (p q : Page) → T (soundOf p) → InRange p → T (soundOf q) → InRange q → imageOf capacity p ≡ imageOf capacity q → p ≡ q

@@ -18,7 +18,7 @@ use Rattle.requests.specs.Premises.{verdict}
 use Rattle.wire.proofs.Premises.{answer-passed, answer-failed}
 use Rattle.image.specs.Images.{wholeSize, imageOf}
 use Rattle.image.specs.Keeping.{keepable, keptAnswer, filledAs, keptIn}
-use Rattle.image.proofs.Trips.{length-image}
+use Rattle.image.proofs.Rooms.{length-image}
 
 -- what is put over the first part of a slice
 pub first-part : (size : ℕ) (old ys bytes : List ℕ) → ys ≡ bytes → putMid 0 (size - 0) old ys ≡ bytes ++ drop size old

@@ -4,21 +4,21 @@
 use Prim.Native.Nat.{ℕ}
 use mathlib.Core.Bool.{Bool, not, _&&_}
 use mathlib.Core.List.{List, [], _∷_}
-use lib.Dec.{eqb, ltb}
+use lib.Dec.{ltb}
 use lib.ListN.{length}
 use Rattle.page_record.specs.declared.Page.{Page}
-use Rattle.soundness.specs.Soundness.{soundOf}
+use Rattle.soundness.specs.Soundness.{soundUnder, soundOf}
 use Rattle.image.specs.Images.{wholeSize}
 use Rattle.image.specs.Decoding.{pageFrom}
-use Rattle.image.specs.Keeping.{isImage}
+use Rattle.image.specs.Keeping.{knownSize, limitsBy, isImage}
 
--- the bytes are the image of a sound page
+-- the bytes are the image of a page that is sound under the limits of their length
 abbrev pub isSoundImage : List ℕ → Bool
-isSoundImage l = soundOf (pageFrom l) && isImage (pageFrom l) l
+isSoundImage l = soundUnder (limitsBy (length l)) (pageFrom l) && isImage (pageFrom l) l
 
--- reading: they have another length; they are not the image of a sound page
+-- reading: they have another length; they are not the image of such a page
 abbrev pub applyingRead : List ℕ → List (ℕ × Bool)
-applyingRead l = (15, not (eqb (length l) wholeSize)) ∷ (16, not (isSoundImage l)) ∷ []
+applyingRead l = (15, not (knownSize (length l))) ∷ (16, not (isSoundImage l)) ∷ []
 
 -- writing: the page is not sound; the buffer is too short
 abbrev pub applyingWrite : Page → List ℕ → List (ℕ × Bool)

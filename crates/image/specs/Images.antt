@@ -1,11 +1,11 @@
 -- The image of a page (RULES 5.5), over the number n of readers that it has room for: the head's bytes, the listed readers' entries,
--- and zeros. Only `wholeSize` and what cites it name today's number.
-use Prim.Native.Nat.{ℕ, zero, suc, _+_, _*_, _<_}
+-- and zeros. Only `wholeSize` and `shortSize` and what cites them name a number of readers.
+use Prim.Native.Nat.{ℕ, zero, suc, _+_, _*_, _-_, _<_}
 use mathlib.Core.Bool.{cond}
 use mathlib.Core.List.{List, [], _∷_, _++_}
-use lib.ListN.{drop, getD}
+use lib.ListN.{drop, getD, replicate}
 use Rattle.kinds.specs.declared.Reader.{Reader}
-use Rattle.kinds.specs.Limits.{lineSize, capacity}
+use Rattle.kinds.specs.Limits.{lineSize, capacity, shortCapacity}
 use Rattle.kinds.specs.Numbers.{flagNumber, storageNumber, excNumber, loadingNumber, writebackNumber, phaseNumber}
 use Rattle.readers.specs.Listed.{live, blankReader}
 use Rattle.page_record.specs.declared.{Head.Head, Page.Page}
@@ -26,6 +26,13 @@ imageSize n = headSize + lineSize * n
 -- today's
 abbrev pub wholeSize : ℕ
 wholeSize = imageSize capacity
+
+-- a short image's, and how many zeros make it one of today's
+abbrev pub shortSize : ℕ
+shortSize = imageSize shortCapacity
+
+abbrev pub shortBy : ℕ
+shortBy = wholeSize - shortSize
 
 -- ---- the head
 -- byte 0 flag, 1 whether storage is in, 2 and 3 the list's length, 4 to 7 the exclusive holder with its bucket, visited and clean,
@@ -80,6 +87,10 @@ entries (suc n) l = firstEntry l ++ entries n (drop 1 l)
 unfoldable pub imageOf : ℕ → Page → List ℕ
 imageOf n p =
     kindBytes (headOf p) (p .readers .len) ++ countBytes (headOf p) ++ valueBytes (headOf p) ++ entries n (live (p .readers))
+
+-- the bytes of a short image, with zeros up to the length of one of today's
+abbrev pub lengthened : List ℕ → List ℕ
+lengthened l = l ++ replicate shortBy 0
 
 -- the values of a page are as wide as the code holds them
 pub record InRange (p : Page) : Type 0 where

@@ -1,18 +1,19 @@
 -- Reading an image and writing one: what is asked, what is answered, and what comes of it (RULES 5.6 and 5.7).
 use Prim.Native.Nat.{ℕ}
-use mathlib.Core.Bool.{Bool, true, false, _&&_}
+use mathlib.Core.Path.{_≡_}
+use mathlib.Core.Bool.{Bool, true, false, cond, _&&_, _||_}
 use mathlib.Core.List.{List, [], _∷_, _++_}
-use lib.Dec.{eqb, leb}
+use lib.Dec.{T, eqb, leb}
 use lib.ListN.{length, drop}
-use Rattle.kinds.specs.Limits.{capacity}
+use Rattle.kinds.specs.Limits.{capacity, Limits, today, short}
 use Rattle.page_record.specs.declared.Page.{Page}
 use Rattle.page_record.specs.Pages.{freshPage}
-use Rattle.soundness.specs.Soundness.{soundOf}
+use Rattle.soundness.specs.Soundness.{soundUnder, soundOf}
 use Rattle.requests.specs.declared.{Refusal.Refusal, Answer.Answer, Verdict.Verdict}
 use Rattle.requests.specs.Premises.{verdict}
 use Rattle.wire.specs.Buffers.{answerFor}
 use Rattle.image.specs.declared.Restored.{Restored}
-use Rattle.image.specs.Images.{wholeSize, imageOf}
+use Rattle.image.specs.Images.{wholeSize, shortSize, imageOf, InRange}
 use Rattle.image.specs.Decoding.{pageFrom}
 
 -- ---- bytes that are the same
@@ -22,14 +23,30 @@ sameBytes [] (y ∷ ys) = false
 sameBytes (x ∷ xs) [] = false
 sameBytes (x ∷ xs) (y ∷ ys) = eqb x y && sameBytes xs ys
 
--- the bytes are the image of this page
+-- ---- the two lengths
+-- an image has one of these
+unfoldable pub knownSize : ℕ → Bool
+knownSize size = eqb size shortSize || eqb size wholeSize
+
+-- and by its length it is judged: a short one under the short limits
+unfoldable pub limitsBy : ℕ → Limits
+limitsBy size = cond (eqb size shortSize) short today
+
+-- the bytes are the image of this page, with room for as many readers as their length lets them
 unfoldable pub isImage : Page → List ℕ → Bool
-isImage p l = sameBytes l (imageOf capacity p)
+isImage p l = sameBytes l (imageOf (limitsBy (length l) .readers) p)
+
+-- they are the image of some page that is sound under these limits
+abbrev pub ImageUnder : Limits → List ℕ → Type 0
+ImageUnder limits l = (p : Page) × T (soundUnder limits p) × InRange p × (imageOf (limits .readers) p ≡ l)
 
 -- ---- reading
--- 15, then 16: the page that the bytes say is sound, and they are its image
+-- 15, then 16: the page that the bytes say is sound under their limits, and they are its image
 abbrev pub readable : Page → List ℕ → List (Refusal × Bool)
-readable p l = (Refusal.WrongSize, eqb (length l) wholeSize) ∷ (Refusal.NotAnImage, soundOf p && isImage p l) ∷ []
+readable p l =
+    (Refusal.WrongSize, knownSize (length l))
+    ∷ (Refusal.NotAnImage, soundUnder (limitsBy (length l)) p && isImage p l)
+    ∷ []
 
 unfoldable pub readVerdict : Page → List ℕ → Verdict
 readVerdict p l = verdict (readable p l)

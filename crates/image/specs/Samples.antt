@@ -1,20 +1,21 @@
--- Pages, and the bytes of their images: a fresh one, each kind of holder, with a bucket and without, and a reader of each phase. And bytes
--- that are refused, and pages that are written, with their numbers. That it is so is computed (proofs/Samples.antt).
-use Prim.Native.Nat.{ℕ, _+_, _-_}
-use mathlib.Core.Bool.{Bool, true, false, _&&_}
+-- Pages, and the bytes of their images: a fresh one, each kind of holder, with a bucket and without, and a reader of each phase. The bytes
+-- are those of short images, and zeros make them images of today's length: for two that is computed too, for all it is proved
+-- (`image-longer`). And bytes that are read, and pages that are written, with their numbers. That it is so is computed (proofs/Samples.antt).
+use Prim.Native.Nat.{ℕ, zero, suc, _+_, _-_, _/_, _%_}
+use mathlib.Core.Bool.{Bool, true, false, cond, _&&_}
 use mathlib.Core.List.{List, [], _∷_, _++_}
 use lib.Dec.{eqb}
-use lib.ListN.{length, replicate}
+use lib.ListN.{length, drop, replicate}
 use Rattle.laws.specs.Lists.{every}
 use Rattle.kinds.specs.declared.{Count.Count, Flag.Flag, MaybeBucket.MaybeBucket, Storage.Storage, Phase.Phase}
 use Rattle.kinds.specs.declared.{ExcState.ExcState, LoadingState.LoadingState, WritebackState.WritebackState}
-use Rattle.kinds.specs.Limits.{capacity}
+use Rattle.kinds.specs.Limits.{buckets, capacity, shortCapacity, shortCeiling, short}
 use Rattle.readers.specs.Listed.{listed}
 use Rattle.page_record.specs.declared.Page.{Page}
 use Rattle.page_record.specs.Pages.{headWith, pageOf, freshPage}
-use Rattle.soundness.specs.Soundness.{soundOf}
+use Rattle.soundness.specs.Soundness.{soundUnder, soundOf}
 use Rattle.requests.specs.Answers.{answerNumber}
-use Rattle.image.specs.Images.{wholeSize, imageOf}
+use Rattle.image.specs.Images.{wholeSize, shortSize, shortBy, imageOf, lengthened}
 use Rattle.image.specs.Keeping.{sameBytes, restoredFrom, keptAnswer}
 
 -- ---- images
@@ -22,9 +23,9 @@ pub record Sample : Type 0 where
   pub page : Page
   pub bytes : List ℕ
 
--- bytes, and zeros up to the length of an image
+-- bytes, and zeros up to the length of a short image
 abbrev padded : List ℕ → List ℕ
-padded l = l ++ replicate (wholeSize - length l) 0
+padded l = l ++ replicate (shortSize - length l) 0
 
 abbrev none : MaybeBucket
 none = MaybeBucket.None
@@ -137,21 +138,51 @@ prefetch = record {
 abbrev pub samples : List Sample
 samples = fresh ∷ claim ∷ await ∷ pending ∷ editing ∷ editingClean ∷ waiting ∷ counted ∷ loading ∷ prefetch ∷ []
 
--- each page is sound, and its image has just these bytes
+-- each page is sound under the short limits, and its short image has just these bytes
 abbrev pub written : Sample → Bool
-written s = soundOf (s .page) && sameBytes (imageOf capacity (s .page)) (s .bytes)
+written s = soundUnder short (s .page) && sameBytes (imageOf shortCapacity (s .page)) (s .bytes)
 
--- ---- bytes that are refused
-pub record Refused : Type 0 where
+-- and its image these and zeros
+abbrev pub writtenLong : Sample → Bool
+writtenLong s = soundOf (s .page) && sameBytes (imageOf capacity (s .page)) (lengthened (s .bytes))
+
+-- ---- lists that are full, or nearly so
+-- the bytes of a page that n readers wait for, each bucket in turn from 0 to the last, with these counts: a head, and an entry for each
+abbrev waitingFrom : ℕ → ℕ → ℕ → List ℕ
+waitingFrom zero b last = []
+waitingFrom (suc n) b last = (1 ∷ b ∷ []) ++ replicate 14 0 ++ waitingFrom n (cond (eqb b last) 0 (b + 1)) last
+
+abbrev crowd : ℕ → ℕ → List ℕ → List ℕ
+crowd n last cs =
+    (0 ∷ 1 ∷ n % 256 ∷ n / 256 ∷ []) ++ replicate 12 0 ++ cs ++ replicate (48 - length cs) 0 ++ waitingFrom n 0 last
+
+-- an equal share of n at each bucket
+abbrev shares : ℕ → List ℕ
+shares n = replicate buckets (n / buckets)
+
+-- ---- bytes that are read, and their number
+pub record Reading : Type 0 where
   pub bytes : List ℕ
   pub number : ℕ
 
-abbrev pub refusals : List Refused
-refusals =
-    -- another length: one byte fewer or more than a fresh page's image
-    record { bytes = 0 ∷ 1 ∷ replicate (wholeSize - 3) 0; number = 15 }
+abbrev pub readings : List Reading
+readings =
+    -- another length: one byte fewer or more than a fresh page's image, short or not
+    record { bytes = 0 ∷ 1 ∷ replicate (shortSize - 3) 0; number = 15 }
+    ∷ record { bytes = 0 ∷ 1 ∷ replicate (shortSize - 1) 0; number = 15 }
+    ∷ record { bytes = 0 ∷ 1 ∷ replicate (wholeSize - 3) 0; number = 15 }
     ∷ record { bytes = 0 ∷ 1 ∷ replicate (wholeSize - 1) 0; number = 15 }
+    -- a bucket at the short ceiling; one above it is too much for a short image, and not for one of today's
+    ∷ record { bytes = padded (crowd shortCeiling 0 (shortCeiling ∷ [])); number = 0 }
+    ∷ record { bytes = padded (crowd (shortCeiling + 1) 0 ((shortCeiling + 1) ∷ [])); number = 16 }
+    ∷ record { bytes = lengthened (padded (crowd (shortCeiling + 1) 0 ((shortCeiling + 1) ∷ []))); number = 0 }
+    -- as many readers as a short image has room for; and one more, for whom it would have no entry but zeros
+    ∷ record { bytes = crowd shortCapacity 3 (shares shortCapacity); number = 0 }
+    ∷ record { bytes = 0 ∷ 1 ∷ (shortCapacity + 1) ∷ drop 3 (crowd shortCapacity 3 (17 ∷ 16 ∷ 16 ∷ 16 ∷ [])); number = 16 }
+    -- as many as a record can list: the length is 0 in byte 2 and 1 in byte 3
+    ∷ record { bytes = crowd capacity 3 (shares capacity); number = 0 }
     -- zeros alone: the page is out, and nobody has it
+    ∷ record { bytes = lengthened (padded []); number = 16 }
     ∷ record { bytes = padded []; number = 16 }
     -- a flag that there isn't
     ∷ record { bytes = padded (11 ∷ 1 ∷ []); number = 16 }
@@ -168,10 +199,11 @@ refusals =
     ∷ record { bytes = padded ((1 ∷ 0 ∷ 0 ∷ 0 ∷ 0 ∷ 0 ∷ 0 ∷ 0 ∷ 3 ∷ 255 ∷ []) ++ replicate 22 0 ++ v8); number = 16 }
     -- the array's filling past the list's end
     ∷ record { bytes = padded ((0 ∷ 1 ∷ []) ++ replicate 62 0 ++ 1 ∷ []); number = 16 }
+    ∷ record { bytes = (0 ∷ 1 ∷ []) ++ replicate (shortSize - 2) 0 ++ 1 ∷ replicate (shortBy - 1) 0; number = 16 }
     ∷ []
 
-abbrev pub refused : Refused → Bool
-refused r = eqb (answerNumber (restoredFrom (r .bytes) .answer)) (r .number)
+abbrev pub numbered : Reading → Bool
+numbered r = eqb (answerNumber (restoredFrom (r .bytes) .answer)) (r .number)
 
 -- ---- a page that is written into a buffer of so many bytes
 pub record Written : Type 0 where
@@ -185,6 +217,7 @@ writings =
     let lost = page Storage.Out Flag.Unmapped (counts 0 0 0 0) ExcState.None LoadingState.None WritebackState.None in
     record { page = lost; room = wholeSize; number = 1 }
     ∷ record { page = lost; room = wholeSize - 1; number = 1 }
+    ∷ record { page = freshPage 0; room = shortSize; number = 15 }
     ∷ record { page = freshPage 0; room = wholeSize - 1; number = 15 }
     ∷ record { page = freshPage 0; room = wholeSize; number = 0 }
     ∷ record { page = freshPage 0; room = wholeSize + 1; number = 0 }
@@ -195,4 +228,4 @@ answered w = eqb (answerNumber (keptAnswer (w .page) (replicate (w .room) 170)))
 
 -- ---- all of them
 abbrev pub shown : Bool
-shown = every written samples && every refused refusals && every answered writings
+shown = every written samples && every writtenLong (claim ∷ editingClean ∷ []) && every numbered readings && every answered writings

@@ -1,14 +1,15 @@
 // The image of a record: the bytes in which it is kept across a restart (RULES 5.5). What any bytes say is `decoding`. Reading asks
-// no more of a byte than that it is the one which writing gives: what the bytes say is judged, written again, and compared.
+// no more of a byte than that it is the one which writing gives: what the bytes say is judged, written again, and compared. A short
+// image is judged under its own limits, and is the first part of what is written.
 ghost use Prim.Native.Nat.{_*_, _<_};
 ghost use mathlib.Core.Path.{_≡_};
 ghost use lib.ListN.{length, drop};
 ghost use Rattle.kinds.specs.Limits.{lineSize, capacity};
 ghost use Rattle.readers.specs.Listed.{live};
+ghost use Rattle.soundness.specs.Soundness.{soundUnder};
 ghost use Rattle.wire.specs.Buffers.{putTo};
 ghost use Rattle.image.specs.Images.{valueBytes, firstEntry, entries, imageOf, imageSize};
-ghost use Rattle.image.specs.Decoding.{pageFrom};
-ghost use Rattle.image.specs.Keeping.{isImage, readVerdict, restoredFrom, keptAnswer, keptIn};
+ghost use Rattle.image.specs.Keeping.{limitsBy, isImage, readVerdict, restoredFrom, keptAnswer, keptIn};
 
 mod carried;
 mod decoding;
@@ -23,6 +24,8 @@ pub use decoding::decode;
 use heads::value_of;
 use kinds::CAPACITY;
 use kinds::LINE;
+use kinds::SHORT_CAPACITY;
+use kinds::SHORT_CEILING;
 use kinds::phase_number;
 use lines::count_bytes;
 use lines::kind_bytes;
@@ -37,6 +40,7 @@ pub use places::FLAG;
 pub use places::IMAGE;
 pub use places::LOADER;
 pub use places::READERS;
+use places::SHORT_IMAGE;
 use places::STORAGE_VALUE;
 pub use places::STORED;
 pub use places::WRITEBACK;
@@ -44,6 +48,7 @@ use readers::Readers;
 use requests::Answer;
 use requests::Refusal;
 use requests::Verdict;
+use rules::counts_under;
 use same::same;
 use soundness::is_sound;
 
@@ -121,12 +126,28 @@ fn put_image(page: Page, out: &mut [u8])
     put_list(readers, &mut out[READERS..IMAGE]);
 }
 
-// Whether the bytes are the image of this page.
+// Whether the page is sound under the limits of an image of this length.
+fn is_sound_by(page: Page, size: usize) -> bool
+    ensures { λ r. ⌜ r ≡ soundUnder (limitsBy size) page ⌝ }
+{
+    let sound = is_sound(page);
+    if size != SHORT_IMAGE {
+        return sound;
+    }
+    let readers = page.readers;
+    let counts = page.ref_counts;
+    sound & ((readers.len <= SHORT_CAPACITY) & counts_under(counts, SHORT_CEILING))
+}
+
+// Whether the bytes are the image of this page, short where they are.
 fn is_image(page: Page, image: &[u8]) -> bool
     ensures { λ r. ⌜ r ≡ isImage page (now (image .entry)) ⌝ }
 {
     let mut again = [0u8; IMAGE];
     put_image(page, &mut again);
+    if image.len() == SHORT_IMAGE {
+        return same(image, &again[..SHORT_IMAGE]);
+    }
     same(image, &again)
 }
 
@@ -134,10 +155,11 @@ fn is_image(page: Page, image: &[u8]) -> bool
 fn judge(page: Page, image: &[u8]) -> Verdict
     ensures { λ r. ⌜ r ≡ readVerdict page (now (image .entry)) ⌝ }
 {
-    if image.len() != IMAGE {
+    let size = image.len();
+    if (size != IMAGE) & (size != SHORT_IMAGE) {
         return Verdict::Failed(Refusal::WrongSize);
     }
-    if !is_sound(page) {
+    if !is_sound_by(page, size) {
         return Verdict::Failed(Refusal::NotAnImage);
     }
     if !is_image(page, image) {

@@ -1,6 +1,7 @@
 // The places of an image's bytes (RULES 5.5), in their order. The holders' and the values' are where they begin.
 use kinds::CAPACITY;
 use kinds::LINE;
+use kinds::SHORT_CAPACITY;
 
 pub const FLAG: usize = 0;
 
@@ -34,6 +35,9 @@ pub const READERS: usize = 64;
 
 // How long an image is.
 pub const IMAGE: usize = READERS + LINE * CAPACITY;
+
+// How long a short one is.
+pub const SHORT_IMAGE: usize = READERS + LINE * SHORT_CAPACITY;
 
 // In an entry of the list.
 pub const PHASE: usize = 0;

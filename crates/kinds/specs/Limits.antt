@@ -7,11 +7,11 @@ buckets = 4
 
 -- how many readers a record can list
 abbrev pub capacity : ℕ
-capacity = 64
+capacity = 256
 
 -- the highest count at a bucket
 abbrev pub ceiling : ℕ
-ceiling = 31
+ceiling = 127
 
 -- the limits that a record is judged under: how many readers it may list, and how high a count may be
 pub record Limits : Type 0 where
@@ -21,6 +21,16 @@ pub record Limits : Type 0 where
 -- those that the code keeps
 abbrev pub today : Limits
 today = record { readers = capacity; count = ceiling }
+
+-- those under which a record was kept in a short image (RULES 5.5): for images alone
+abbrev pub shortCapacity : ℕ
+shortCapacity = 64
+
+abbrev pub shortCeiling : ℕ
+shortCeiling = 31
+
+abbrev pub short : Limits
+short = record { readers = shortCapacity; count = shortCeiling }
 
 -- how many requests a run takes
 abbrev pub mostRequests : ℕ

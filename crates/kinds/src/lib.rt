@@ -35,10 +35,16 @@ pub use phases::phase_number;
 pub const BUCKETS: u8 = 4;
 
 // How many readers a record can list.
-pub const CAPACITY: usize = 64;
+pub const CAPACITY: usize = 256;
 
 // The highest count at a bucket.
-pub const CEILING: u8 = 31;
+pub const CEILING: u8 = 127;
+
+// How many readers a record could list, and the highest count at a bucket, when records were kept in short images. They are the
+// limits of those, and of nothing else.
+pub const SHORT_CAPACITY: usize = 64;
+
+pub const SHORT_CEILING: u8 = 31;
 
 // How many requests a run takes.
 pub const MOST_REQUESTS: usize = 2048;
@@ -52,7 +58,7 @@ pub struct Bucket(pub u8);
 // How many buckets an editor has looked at, 0 to 4.
 pub struct Visited(pub u8);
 
-// How many hold a bucket, 0 to 31.
+// How many hold a bucket, 0 to 127.
 pub struct Count(pub u8);
 
 pub enum Flag {

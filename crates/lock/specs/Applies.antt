@@ -103,11 +103,11 @@ countOther p n =
 abbrev pub applies9 : Page → Request → Bool
 applies9 p q = holderThere p q && countOther p (q .step)
 
--- 10: the count at b is 31 (13, 18, 19)
+-- 10: the count at b is the highest that there may be (13, 18, 19)
 abbrev pub applies10 : Page → Request → Bool
 applies10 p q = among raising (q .step) && eqb (numberAt (p .«ref_counts») (q .bucket .0)) ceiling
 
--- 11: the list holds 64 (9, 16, 19, 26)
+-- 11: the list holds as many as it can (9, 16, 19, 26)
 abbrev pub applies11 : Page → Request → Bool
 applies11 p q = among listing (q .step) && eqb (p .readers .len) capacity
 

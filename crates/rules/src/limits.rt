@@ -1,7 +1,7 @@
 // Rule 8, ours: the limits (RULES 2). No sum is made here, so a record however broken gets its answer.
 ghost use mathlib.Core.Path.{_≡_};
 ghost use Rattle.readers.specs.Listed.{live};
-ghost use Rattle.rules.specs.Rules.{countsWithin, holdersWithin, bucketsWithin, limitsKept};
+ghost use Rattle.rules.specs.Rules.{countsUnder, holdersWithin, bucketsWithin, limitsKept};
 use kinds::BUCKETS;
 use kinds::CAPACITY;
 use kinds::CEILING;
@@ -16,14 +16,14 @@ use page_record::valid_bucket;
 use readers::Readers;
 use readers::blank_past;
 
-// Each count is at most the ceiling.
-fn counts_within(counts: [Count; BUCKETS as usize]) -> bool
-    ensures { λ r. ⌜ r ≡ countsWithin counts ⌝ }
+// Each count is at most this one.
+pub fn counts_under(counts: [Count; BUCKETS as usize], highest: u8) -> bool
+    ensures { λ r. ⌜ r ≡ countsUnder highest counts ⌝ }
 {
-    (counts[0].0 <= CEILING)
-        & (counts[1].0 <= CEILING)
-        & (counts[2].0 <= CEILING)
-        & (counts[3].0 <= CEILING)
+    (counts[0].0 <= highest)
+        & (counts[1].0 <= highest)
+        & (counts[2].0 <= highest)
+        & (counts[3].0 <= highest)
 }
 
 // Every holder's bucket is one of the four, and the editor's visited number at most four.
@@ -65,5 +65,5 @@ pub fn limits_kept(h: Head, readers: Readers) -> bool
     let e = h.exc_state;
     let l = h.loading_state;
     let listed = (readers.len <= CAPACITY) & buckets_within(readers) & blank_past(readers);
-    counts_within(counts) & holders_within(e, l) & listed
+    counts_under(counts, CEILING) & holders_within(e, l) & listed
 }

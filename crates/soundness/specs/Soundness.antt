@@ -1,9 +1,9 @@
 -- When a page is sound: it keeps the eight rules. The rules take the limits that a page is judged under; the lock judges by those
 -- of today.
 use Prim.Native.Nat.{ℕ}
-use mathlib.Core.Bool.{Bool, cond}
+use mathlib.Core.Bool.{Bool, cond, _&&_}
 use mathlib.Core.List.{List, [], _∷_}
-use lib.Dec.{eqb}
+use lib.Dec.{eqb, leb}
 use Rattle.laws.specs.Tables.{firstBroken}
 use Rattle.kinds.specs.Limits.{Limits, today}
 use Rattle.readers.specs.declared.Readers.{Readers}
@@ -12,7 +12,7 @@ use Rattle.page_record.specs.declared.{Head.Head, Page.Page}
 use Rattle.page_record.specs.Pages.{headOf}
 use Rattle.rules.specs.Rules.{storageSomeInvariant, excStateInvariants, writebackStateInvariants}
 use Rattle.rules.specs.Rules.{loadingStateInvariants, refCountInvariant, flagInvariant, sharedStorageInvariant}
-use Rattle.rules.specs.Rules.{limitsUnder}
+use Rattle.rules.specs.Rules.{countsUnder, limitsUnder}
 
 -- how many rules there are: the code's RULES
 abbrev pub ruleCount : ℕ
@@ -39,6 +39,11 @@ lowestUnder limits p = firstBroken 1 (rulesUnder limits (headOf p) (p .readers))
 -- sound: none is broken
 abbrev pub soundUnder : Limits → Page → Bool
 soundUnder limits p = eqb (lowestUnder limits p) 0
+
+-- all that a page which is sound under higher limits is asked under these (`sound-between`, proofs/Under.antt): it lists no more readers,
+-- and has no higher count
+abbrev pub fitsUnder : Limits → Page → Bool
+fitsUnder limits p = leb (p .readers .len) (limits .readers) && countsUnder (limits .count) (p .«ref_counts»)
 
 -- ---- under those of today
 abbrev pub rules : Head → Readers → List Bool

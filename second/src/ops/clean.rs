@@ -5,7 +5,6 @@ use super::image::of;
 use super::random::Random;
 use super::request::{records, step, Draft};
 use super::returns::play_single;
-use super::scripts::readers;
 use super::situations::{
     editing, editing_dirty, editing_uncounted, editing_uncounted_clean, page_of, then,
 };
@@ -122,20 +121,6 @@ fn scripts() -> Vec<Script> {
                 step(29).of(5),
             ],
         ),
-        // On a full list, which is told first where the list is asked for.
-        (
-            then(editor(1), &readers([16; 4])),
-            vec![
-                step(9).of(6),
-                step(9).of(5),
-                step(10).of(6),
-                step(29).of(6),
-                step(30).of(6),
-                step(20).at(2),
-                step(9).of(6),
-                step(9).of(5),
-            ],
-        ),
     ]
 }
 
@@ -236,12 +221,12 @@ fn play_origin(stream: &mut Stream, random: &mut Random, origin: &Origin) {
     } else {
         [other, kept]
     };
-    let image = of(&page_of(script, kept));
+    let page = page_of(script, kept);
     for raw in [true, false] {
         if raw {
-            stream.raw(&image.clone().noise(random).0);
+            stream.raw(&of(&page).noise(random).0);
         } else {
-            stream.read_image(&image.0);
+            stream.read_page(&page);
         }
         stream.write_image(IMAGE);
         for value in values {

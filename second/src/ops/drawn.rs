@@ -10,6 +10,9 @@ use crate::raw::{place, IMAGE};
 use crate::readers::Readers;
 use crate::record::{count_all_refs, Page};
 
+/// How many readers there are in a crowd: around all limits.
+const CROWDS: [usize; 8] = [31, 32, 64, 65, 127, 128, 255, 256];
+
 /// A page that a walk came by, among other bytes that nothing looks at.
 pub fn walked_page(random: &mut Random, walked: &[Page]) -> Image {
     of(&random.pick(walked)).noise(random)
@@ -40,7 +43,7 @@ pub fn change(random: &mut Random, image: Image) -> Image {
         0 | 1 => image.set(place::FLAG, random.byte_below(11)),
         2 => image.set(place::STORAGE_IN, random.byte_below(2)),
         3 => image.value(place::STORAGE, random.value()),
-        4 => image.length(random.pick(&[0, 1, length ^ 1, 64, 65, 65_535])),
+        4 => image.length(random.pick(&[0, 1, length ^ 1, length ^ 256, 256, 257, 65_535])),
         5 => image.set(place::EXC_KIND, random.byte_below(7)),
         6 => image.set(place::EXC_BUCKET, bucket),
         7 => image.set(place::VISITED, random.byte_below(6)),
@@ -48,7 +51,10 @@ pub fn change(random: &mut Random, image: Image) -> Image {
         9 => image.set(place::LOADER_KIND, random.byte_below(4)),
         10 => image.set(place::LOADER_BUCKET, bucket),
         11 => image.set(place::WRITEBACK_IN, random.byte_below(2)),
-        12 => image.count(random.below(4), random.pick(&[0, 1, 2, 31, 32, 255])),
+        12 => image.count(
+            random.below(4),
+            random.pick(&[0, 1, 2, 31, 32, 127, 128, 255]),
+        ),
         13 => image.value(place::EXC_VALUE, random.value()),
         14 => image.value(place::WRITEBACK, random.value()),
         15 => image.entry(entry, random.byte_below(4), bucket, random.value()),
@@ -85,7 +91,8 @@ fn any_holders(random: &mut Random) -> Page {
     };
     for bucket in BucketId::ALL {
         let off = u8::from(random.one_in(32));
-        page.ref_counts[bucket.index()] = Count(count_all_refs(&page, bucket) as u8 + off);
+        let count = count_all_refs(&page, bucket) as u8;
+        page.ref_counts[bucket.index()] = Count(count.wrapping_add(off));
     }
     page
 }
@@ -127,11 +134,16 @@ fn any_loading_state(random: &mut Random) -> Option<LoadingState> {
     }
 }
 
-/// A few readers, at times one past the length.
+/// A few readers or, at times, a crowd of equal ones; at times one past the length.
 fn any_readers(random: &mut Random, value: u64) -> Readers {
     let mut readers = Readers::none();
     for _ in 0..random.below(3) {
         readers.push(any_reader(random, value));
+    }
+    if random.one_in(12) {
+        let crowd = any_reader(random, value);
+        let length = random.pick(&CROWDS) - readers.listed().len();
+        (0..length).for_each(|_| readers.push(crowd));
     }
     if random.one_in(16) {
         readers.entries[random.below(CAPACITY)] = any_reader(random, value);

@@ -4,13 +4,14 @@
 use super::random::Random;
 use super::request::Draft;
 use super::situations::page_after;
-use crate::kinds::Flag;
+use crate::image::SHORT_IMAGE;
+use crate::kinds::{Flag, CAPACITY};
 use crate::raw::{place, unlooked, write_raw, IMAGE};
 use crate::record::Page;
 use crate::wire::RECORD;
 
-/// Rooms around that of an image.
-pub const ROOMS: [usize; 6] = [0, 1, IMAGE - 1, IMAGE, IMAGE + 1, IMAGE + 100];
+/// Rooms around that of an image, and the one that a short one would need.
+pub const ROOMS: [usize; 6] = [0, 1, SHORT_IMAGE, IMAGE - 1, IMAGE, IMAGE + 1];
 
 /// The bytes of an image or of a raw page.
 #[derive(Clone)]
@@ -27,6 +28,11 @@ pub fn of(page: &Page) -> Image {
 }
 
 impl Image {
+    /// The first 1,088 bytes: the short image, where there is one.
+    pub fn short(&self) -> &[u8] {
+        &self.0[..SHORT_IMAGE]
+    }
+
     /// With this byte at this place.
     pub fn set(mut self, place: usize, byte: u8) -> Image {
         self.0[place] = byte;
@@ -77,7 +83,7 @@ impl Image {
         if self.0[place::EXC_KIND] < 3 {
             self.0[place::CLEAN] = random.byte_below(2);
         }
-        for number in 0..(IMAGE - place::READERS) / RECORD {
+        for number in 0..CAPACITY {
             let phase = &mut self.0[entry_place(number)];
             if *phase < 2 {
                 *phase = random.byte_below(2);

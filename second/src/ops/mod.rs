@@ -10,6 +10,7 @@ pub mod damage;
 pub mod drawn;
 pub mod ends;
 pub mod extras;
+pub mod forms;
 pub mod image;
 pub mod pages;
 pub mod pieces;
@@ -72,7 +73,7 @@ pub fn stream(plan: &Plan) -> Vec<u8> {
     let mut random = Random::new(plan.seed);
     let mut stream = Stream::start();
     stream.look();
-    scripts::play(&mut stream, &mut random);
+    scripts::play(&mut stream, &mut random, plan);
     scripts::play_situations(&mut stream, &mut random, plan);
     returns::play(&mut stream, &mut random, plan);
     clean::play(&mut stream, &mut random, plan);
@@ -84,6 +85,7 @@ pub fn stream(plan: &Plan) -> Vec<u8> {
     let walked = walks::play(&mut stream, &mut random, plan);
     pages::play(&mut stream, &mut random, plan, &walked);
     restarts::play(&mut stream, &mut random, plan, &walked);
+    forms::play(&mut stream, &mut random, plan);
     pieces::play(&mut stream, &mut random, plan, &walked);
     ends::play(&mut stream, &mut random, plan);
     stream.bytes()

@@ -2,12 +2,12 @@
 //! whole and ragged, and refused for each ground and for every two at once.
 
 use super::extras::LARGE;
-use super::image::{after, of, Image};
+use super::image::{after, Image};
 use super::pages::main_pages;
 use super::random::Random;
 use super::request::{records, step, Draft};
 use super::restarts::full;
-use super::scripts::every_step;
+use super::scripts::{ceilings, every_step};
 use super::situations::{self, available, page_after, LOADED};
 use super::stream::Stream;
 use super::walks::Hand;
@@ -68,14 +68,15 @@ const LONG_LENGTHS: [usize; 5] = [PIECE + RECORD, 2 * PIECE, 32_768, 65_535, 65_
 const SOME: usize = 5;
 
 /// The carry as it is at first, scripts and walks in pieces, the same bytes in
-/// several ways, more requests than a run may have, carries, rooms, what comes in
-/// between, and refusals.
+/// several ways, more requests than a run may have, ceilings, carries, rooms, what
+/// comes in between, and refusals.
 pub fn play(stream: &mut Stream, random: &mut Random, plan: &Plan, walked: &[Page]) {
     stream.finish_pieces();
     play_scripts(stream, random, plan);
     play_walks(stream, random, plan, walked);
     play_ways(stream, random, plan);
     play_many(stream, random);
+    play_ceilings(stream, random, plan);
     play_carries(stream, random, plan);
     play_payloads(stream, random);
     play_rooms(stream, random);
@@ -93,6 +94,7 @@ pub fn play(stream: &mut Stream, random: &mut Random, plan: &Plan, walked: &[Pag
 fn turn(bucket: u8, first: u64, second: u64) -> Vec<Draft> {
     vec![
         step(11),
+        step(12),
         step(13).at(bucket),
         step(14),
         step(16).of(first),
@@ -206,7 +208,7 @@ fn play_scripts(stream: &mut Stream, random: &mut Random, plan: &Plan) {
 fn play_walks(stream: &mut Stream, random: &mut Random, plan: &Plan, walked: &[Page]) {
     for turn in 0..(plan.requests / 250).max(2) {
         if plan.long() && turn % 2 == 1 {
-            stream.read_image(&of(&random.pick(walked)).0);
+            stream.read_page(&random.pick(walked));
         } else {
             stream.fresh(random.value());
         }
@@ -266,6 +268,19 @@ fn play_many(stream: &mut Stream, random: &mut Random) {
     stream.piece_all(left);
     stream.finish_pieces();
     stream.look();
+}
+
+/// Ceilings in pieces that are almost as long as they can be, from a fresh page.
+fn play_ceilings(stream: &mut Stream, random: &mut Random, plan: &Plan) {
+    for (filled, asked) in plan.share(ceilings(), 10) {
+        let requests = records(&[filled, asked].concat());
+        stream.fresh(0);
+        for piece in requests.as_flattened().chunks(PIECE - random.below(RECORD)) {
+            stream.piece_all(piece);
+        }
+        stream.finish_pieces();
+        stream.look();
+    }
 }
 
 /// A carry as it is written, with this byte at one of its places, as far as it is
@@ -377,7 +392,7 @@ fn play_other(stream: &mut Stream, random: &mut Random, number: u8) {
         1 => stream.fresh(random.value()),
         4 => stream.run_all(&[request]),
         5 => stream.write_back(&request, RECORD),
-        8 => stream.read_image(&after(&available()).0),
+        8 => stream.read_page(&page_after(&available())),
         9 => stream.write_image(IMAGE),
         _ => stream.push(number, 0, &request),
     }

@@ -2,7 +2,6 @@
 //! from its beginning, its middle and its end, the first of equal ones, and the
 //! only one. After each comes a look: it shows who took the place.
 
-use super::image::of;
 use super::request::{records, step, Draft};
 use super::restarts::full;
 use super::situations::{page_after, then, LOADED};
@@ -10,6 +9,7 @@ use super::stream::Stream;
 use super::Plan;
 use crate::raw::IMAGE;
 use crate::run::answer_line;
+use crate::wire::RECORD;
 
 /// The steps that take a reader off the list.
 pub const REMOVALS: [u8; 4] = [4, 20, 21, 22];
@@ -88,8 +88,8 @@ fn leave(number: u8, bucket: u8) -> Draft {
     step(number).at(bucket).revalued(LOADED)
 }
 
-/// The exact lists; then each step by single requests and in a run. In a long
-/// stream each step on a full list, too.
+/// The exact lists; then each step by single requests and in a run. Then a full list,
+/// which a short stream has one of.
 pub fn play(stream: &mut Stream, plan: &Plan) {
     for (first, asked) in LISTS {
         stream.play(&then(LOAD.to_vec(), first));
@@ -104,8 +104,8 @@ pub fn play(stream: &mut Stream, plan: &Plan) {
         stream.play(&then(readers(number), &[leave(number, LEAVE[0])]));
         stream.look();
     }
-    if plan.long() {
-        play_full(stream);
+    for request in plan.share(leaving_full(), 10) {
+        play_full(stream, &request);
     }
 }
 
@@ -126,17 +126,24 @@ fn play_single(stream: &mut Stream, number: u8, lent: bool, image: usize) {
     }
 }
 
-/// One leaves a full list that was read, wherever a step finds one.
-fn play_full(stream: &mut Stream) {
+/// The requests by which one leaves a full list.
+fn leaving_full() -> Vec<[u8; RECORD]> {
     let page = page_after(&full());
-    for number in REMOVALS {
-        for request in (0..4).map(|bucket| leave(number, bucket).bytes()) {
-            if answer_line(&mut page.clone(), &request).is_ok() {
-                stream.read_image(&of(&page).0);
-                stream.ask(&request);
-                stream.look();
-                stream.write_image(IMAGE);
-            }
-        }
-    }
+    let numbers = REMOVALS.into_iter();
+    let requests = numbers.flat_map(|number| (0..4).map(move |bucket| leave(number, bucket)));
+    requests
+        .map(|request| request.bytes())
+        .filter(|request| answer_line(&mut page.clone(), request).is_ok())
+        .collect()
+}
+
+/// One leaves a full list that was read. Another one comes, who is found at the last
+/// place.
+fn play_full(stream: &mut Stream, request: &[u8; RECORD]) {
+    stream.read_page(&page_after(&full()));
+    stream.ask(request);
+    stream.look();
+    stream.ask(&step(19).at(3).bytes());
+    stream.write_image(IMAGE);
+    stream.ask(&step(20).at(3).bytes());
 }

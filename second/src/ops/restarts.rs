@@ -1,5 +1,6 @@
 //! Pages across a restart: images of sound pages, which are read and go on, and
-//! bytes that are not the image of a sound page.
+//! bytes that are not the image of a sound page. Both are long and short by turns,
+//! where nothing else is said.
 
 use super::drawn::change;
 use super::image::{after, entry_place, of, Image, ROOMS};
@@ -9,17 +10,38 @@ use super::request::{step, Draft, EDGES};
 use super::situations::{
     self, available, claimed, claimed_counted, editing, editing_uncounted, load_counted,
     load_pending, loading, loading_uncounted, page_of, pending, then, unmapped, unmapped_again,
-    visited, visiting, writeback, writeback_and_claimed_uncounted, LOADED,
+    visited, visiting, writeback, writeback_and_claimed_uncounted, LOADED, MOST, REST,
 };
 use super::stream::Stream;
 use super::Plan;
+use crate::image::SHORT_IMAGE;
+use crate::kinds::{Flag, CAPACITY};
 use crate::raw::{place, IMAGE};
 use crate::record::Page;
 use crate::wire::RECORD;
 
-/// Lengths that an image does not have, and those that only a long stream has.
-const LENGTHS: [usize; 5] = [0, 1, RECORD, IMAGE - 1, IMAGE + 1];
-const LONG_LENGTHS: [usize; 3] = [2 * IMAGE, 4_160, 65_536];
+/// Lengths that an image does not have, nor a short one; one is in the middle of the
+/// two. Then those that only a long stream has.
+const LENGTHS: [usize; 8] = [
+    0,
+    1,
+    RECORD,
+    SHORT_IMAGE - 1,
+    SHORT_IMAGE + 1,
+    (SHORT_IMAGE + IMAGE) / 2,
+    IMAGE - 1,
+    IMAGE + 1,
+];
+const LONG_LENGTHS: [usize; 8] = [
+    place::READERS,
+    SHORT_IMAGE - RECORD,
+    SHORT_IMAGE + RECORD,
+    2 * SHORT_IMAGE,
+    IMAGE - RECORD,
+    IMAGE + RECORD,
+    2 * IMAGE,
+    65_536,
+];
 
 /// A value whose eight bytes are all different.
 const SPREAD: u64 = 0x0807_0605_0403_0201;
@@ -29,12 +51,12 @@ const SPREAD: u64 = 0x0807_0605_0403_0201;
 pub fn main_kept() -> Vec<Page> {
     vec![
         page_of(&full(), SPREAD),
-        busy(),
         page_of(&pending(), SPREAD),
-        page_of(&visited(), 0),
         page_of(&editing_uncounted(), SPREAD),
-        page_of(&load_pending(), 0),
+        busy(),
+        page_of(&visited(), 0),
         page_of(&load_counted(), 0),
+        page_of(&load_pending(), 0),
         page_of(&loading_uncounted(), 0),
     ]
 }
@@ -44,15 +66,15 @@ fn busy() -> Page {
     page_of(&writeback_and_claimed_uncounted(), u64::MAX)
 }
 
-/// A loaded page with 64 readers of all phases, 31 of them at each of two
+/// A loaded page with 256 readers of all phases, 127 of them at each of two
 /// buckets.
 pub fn full() -> Vec<Draft> {
     vec![
         step(12),
         step(17).of(LOADED),
-        step(19).times(31),
-        step(19).at(1).times(31),
-        step(19).at(2).times(2),
+        step(19).times(MOST),
+        step(19).at(1).times(MOST),
+        step(19).at(2).times(REST),
         step(23).times(20),
         step(24).times(10),
         step(23).at(1).times(2),
@@ -97,29 +119,27 @@ fn at_the_first_bucket() -> [Vec<Draft>; 5] {
     [counted, loading, claimed, visiting, editing]
 }
 
-/// A loader that is one of 31 at its bucket.
+/// A loader that is one of 127 at its bucket.
 fn ceiling() -> Vec<Draft> {
-    vec![step(19).at(3).times(30), step(11), step(13).at(3), step(14)]
+    let readers = step(19).at(3).times(MOST - 1);
+    vec![readers, step(11), step(13).at(3), step(14)]
 }
 
 /// What one that does not look closely takes for an image: zeros alone, a length
-/// of 256 more, a byte in a gap, a listed reader of phase 0, what a Pending reader
-/// does not have, a blank that is written out, a byte at the very end, and editors
-/// of kind 4, clean and not, which say nothing of what was taken. Where there are
-/// several places of a kind, they go round with the seed.
+/// of 256 more, a byte in a gap, which goes round with the seed, a listed reader of
+/// phase 0, a claimant that is called clean, a blank that is written out, and editors
+/// of kind 4, clean and not, which say nothing of what was taken.
 fn main_damaged(plan: &Plan) -> Vec<Image> {
     let [_, gap, _] = place::GAPS;
-    let pending = busy_entry(0);
     let past = entry_place(busy().shared_state.listed().len());
     let busy = |place: usize, byte: u8| of(&busy()).set(place, byte);
     vec![
         Image([0; IMAGE]),
         busy(place::LENGTH + 1, 1),
         busy(plan.one_of(gap), 1),
-        busy(pending, 0),
-        busy(plan.one_of(pending + 2..pending + RECORD), 1),
+        busy(busy_entry(0), 0),
+        busy(place::CLEAN, 1),
         busy(past, 1),
-        busy(plan.one_of(IMAGE - 8..IMAGE), 1),
         untold(&editing()),
         untold(&editing_uncounted()),
     ]
@@ -138,24 +158,35 @@ fn busy_entry(phase: usize) -> usize {
     entry_place(phases.position(|other| other == phase).unwrap())
 }
 
-/// More of it, of which a short stream has only some: each number one above the
-/// highest, a bucket, a visited number, a clean or a value that a kind does not
-/// have, none for the loader that must have a bucket, and bytes in other gaps.
-fn more_damaged(plan: &Plan) -> Vec<Image> {
-    use place::{
-        CLEAN, EXC_BUCKET, EXC_KIND, EXC_VALUE, FLAG, LOADER_BUCKET, LOADER_KIND, STORAGE,
-        STORAGE_IN, VISITED, WRITEBACK, WRITEBACK_IN,
-    };
-    let [first_gap, _, last_gap] = place::GAPS;
+/// More of it, which a short stream has as short images, because they cost little:
+/// each number one above the highest, a visited number that a claim does not have, and
+/// flags that are another holder's.
+fn short_damaged() -> Vec<Image> {
+    use place::{CLEAN, EXC_KIND, FLAG, LOADER_KIND, STORAGE_IN, VISITED, WRITEBACK_IN};
     vec![
         after(&visiting()).set(FLAG, 11),
         after(&available()).set(STORAGE_IN, 2),
         after(&editing()).set(EXC_KIND, 6),
-        after(&editing()).set(EXC_KIND, 4),
         after(&visited()).set(CLEAN, 2),
         after(&loading()).set(LOADER_KIND, 4),
         after(&writeback()).set(WRITEBACK_IN, 2),
         after(&available()).set(entry_place(0), 4),
+        after(&claimed()).set(VISITED, 1),
+        after(&claimed()).flag(Flag::PendingExcLock),
+        after(&editing()).flag(Flag::ExcLockDirty),
+    ]
+}
+
+/// More of it, of which a short stream has only some: a bucket, a visited number, a
+/// clean or a value that a kind does not have, none for the loader that must have a
+/// bucket, and bytes in other gaps.
+fn more_damaged(plan: &Plan) -> Vec<Image> {
+    use place::{
+        CLEAN, EXC_BUCKET, EXC_KIND, EXC_VALUE, LOADER_BUCKET, STORAGE, VISITED, WRITEBACK,
+    };
+    let [first_gap, _, last_gap] = place::GAPS;
+    vec![
+        after(&editing()).set(EXC_KIND, 4),
         after(&unmapped()).set(EXC_BUCKET, 255),
         after(&unmapped()).set(EXC_BUCKET, 1),
         after(&unmapped()).set(LOADER_BUCKET, 255),
@@ -164,7 +195,6 @@ fn more_damaged(plan: &Plan) -> Vec<Image> {
         after(&load_pending()).set(LOADER_BUCKET, 1),
         after(&load_counted()).set(LOADER_BUCKET, 255).count(2, 0),
         after(&unmapped()).set(VISITED, 1),
-        after(&claimed()).set(VISITED, 1),
         after(&pending()).set(VISITED, 4),
         after(&editing()).set(VISITED, 4),
         after(&unmapped()).set(CLEAN, 1),
@@ -183,7 +213,7 @@ fn more_damaged(plan: &Plan) -> Vec<Image> {
 /// A page with another byte at one place: at each place of the head, of the
 /// first, the middle and the last listed entry, of the first one past the length
 /// and of the very last. The seed decides about the page. Some of these are
-/// images after all, of other sound pages.
+/// images after all, of other sound pages, or short ones that end before the place.
 fn each_byte(plan: &Plan) -> Vec<Image> {
     let pages = [
         busy(),
@@ -193,7 +223,7 @@ fn each_byte(plan: &Plan) -> Vec<Image> {
     ];
     let page = &pages[(plan.seed % 4) as usize];
     let listed = page.shared_state.listed().len();
-    let mut entries = vec![0, listed / 2, listed - 1, listed, 63];
+    let mut entries = vec![0, listed / 2, listed - 1, listed, CAPACITY - 1];
     entries.dedup();
     let entries = entries.into_iter().map(entry_place);
     let places = entries.flat_map(|entry| entry..entry + RECORD);
@@ -207,43 +237,59 @@ fn unsound(pages: Vec<(u8, Image)>) -> Vec<Image> {
     unsound.map(|(_, image)| image).collect()
 }
 
-/// Pages that go on, bytes that are no image, and both of them drawn.
+/// Pages that go on, bytes that are no image, among them a blank that is written out
+/// at the last place, and both of them drawn.
 pub fn play(stream: &mut Stream, random: &mut Random, plan: &Plan, walked: &[Page]) {
     for page in main_kept() {
-        restore(stream, random, &of(&page));
+        restore(stream, random, &page);
     }
     for room in ROOMS {
         stream.write_image(room);
     }
     for page in plan.share(more_kept(plan), 32) {
-        restore(stream, random, &of(&page));
+        restore(stream, random, &page);
     }
     let damaged = main_damaged(plan)
         .into_iter()
-        .chain(plan.share(more_damaged(plan), 8))
+        .chain(plan.share(more_damaged(plan), 12))
         .chain(plan.share(each_byte(plan), 144))
         .chain(plan.share(unsound(main_pages()), 12));
     for image in damaged {
-        read(stream, &image.0);
+        read_either(stream, &image);
     }
+    for image in short_damaged() {
+        read(stream, image.short());
+        if plan.long() {
+            read(stream, &image.0);
+        }
+    }
+    let last = entry_place(CAPACITY - 1);
+    read(stream, &of(&busy()).set(last, 1).0);
     play_lengths(stream, &LENGTHS);
     if plan.long() {
         play_long(stream, random, plan, walked);
     }
 }
 
-/// An image, and every function on its page.
-fn restore(stream: &mut Stream, random: &mut Random, image: &Image) {
-    stream.read_image(&image.0);
+/// A page that is read, and every function on it.
+fn restore(stream: &mut Stream, random: &mut Random, page: &Page) {
+    stream.read_page(page);
     stream.look();
     stream.write_image(IMAGE);
     ask_on(stream, random, 3);
 }
 
 /// Bytes that are read where a reader is listed, who goes in any case.
-fn read(stream: &mut Stream, bytes: &[u8]) {
+pub fn read(stream: &mut Stream, bytes: &[u8]) {
     stream.ask(&step(19).at(2).bytes());
     stream.read_image(bytes);
+    stream.look();
+}
+
+/// The same, long and short by turns.
+fn read_either(stream: &mut Stream, image: &Image) {
+    stream.ask(&step(19).at(2).bytes());
+    stream.read_either(image);
     stream.look();
 }
 
@@ -262,15 +308,16 @@ fn play_lengths(stream: &mut Stream, lengths: &[usize]) {
 fn play_long(stream: &mut Stream, random: &mut Random, plan: &Plan, walked: &[Page]) {
     play_lengths(stream, &LONG_LENGTHS);
     for image in unsound(more_pages()) {
-        read(stream, &image.0);
+        read_either(stream, &image);
     }
-    for turn in 0..plan.requests / 100 {
-        let image = of(&random.pick(walked));
+    for turn in 0..plan.requests / 150 {
+        let page = random.pick(walked);
+        let image = of(&page);
         match turn % 4 {
-            0 => restore(stream, random, &image),
-            1 => read(stream, &change(random, image).0),
-            2 => read(stream, &image.set(random.below(IMAGE), random.byte()).0),
-            _ => read(stream, &image.noise(random).0),
+            0 => restore(stream, random, &page),
+            1 => read_either(stream, &change(random, image)),
+            2 => read_either(stream, &image.set(random.below(IMAGE), random.byte())),
+            _ => read_either(stream, &image.noise(random)),
         }
     }
 }

@@ -1,11 +1,11 @@
 //! What is given back: a claim, a wait, visits, and the page itself; by holders
 //! at a bucket and without one, on pages of every origin.
 
-use super::image::{after, of};
+use super::image::of;
 use super::random::Random;
 use super::request::{records, step, Draft, EDGES};
 use super::restarts::{main_kept, more_kept};
-use super::situations::{pending, then, visited, LOADED};
+use super::situations::{page_after, pending, then, visited, LOADED};
 use super::stream::Stream;
 use super::Plan;
 use crate::kinds::ExcState;
@@ -228,12 +228,12 @@ pub fn play(stream: &mut Stream, random: &mut Random, plan: &Plan) {
         }
     }
     for (situation, script) in [(pending(), &WAITING[..]), (visited(), &VISITING)] {
-        let image = after(&situation);
+        let page = page_after(&situation);
         stream.lend_next(false);
-        stream.raw(&image.clone().noise(random).0);
+        stream.raw(&of(&page).noise(random).0);
         go_through(stream, script);
         stream.lend_next(true);
-        stream.read_image(&image.0);
+        stream.read_page(&page);
         go_through(stream, script);
     }
     if plan.long() {
@@ -281,7 +281,7 @@ fn play_kept(stream: &mut Stream, random: &mut Random, page: &Page) {
         if random.one_in(2) {
             stream.raw(&of(page).noise(random).0);
         } else {
-            stream.read_image(&of(page).0);
+            stream.read_page(page);
         }
         stream.ask(&request.bytes());
         stream.look_closely();

@@ -5,7 +5,7 @@
 use super::clean::DEPOSITS;
 use super::random::Random;
 use super::request::{records, step, Draft, EDGES};
-use super::situations::{self, LOADED, OTHER, PREFETCHES};
+use super::situations::{self, page_after, EACH, LOADED, MOST, OTHER, PREFETCHES, REST};
 use super::stream::Stream;
 use super::Plan;
 use crate::raw::IMAGE;
@@ -192,17 +192,17 @@ pub const fn readers(numbers: [usize; 4]) -> [Draft; 4] {
 }
 
 /// What fills the page in a run, and what is then asked by single requests.
-type Ceiling = (Vec<Draft>, Vec<Draft>);
+pub type Ceiling = (Vec<Draft>, Vec<Draft>);
 
 /// Case I, and the ceilings where a loader or an editor is the holder.
-fn ceilings() -> Vec<Ceiling> {
+pub fn ceilings() -> Vec<Ceiling> {
     let load: &[Draft] = &LOAD;
     let edit: &[Draft] = &EDIT;
     vec![
         // Case I. Without a loader or an editor the ceiling is not asked for.
         // Under every ceiling a loader can leave, with a bucket or without.
         (
-            readers([32, 0, 0, 0]).to_vec(),
+            readers([MOST + 1, 0, 0, 0]).to_vec(),
             vec![
                 step(19),
                 step(13),
@@ -214,7 +214,7 @@ fn ceilings() -> Vec<Ceiling> {
             ],
         ),
         (
-            readers([16, 16, 16, 17]).to_vec(),
+            readers([EACH, EACH, EACH, EACH + 1]).to_vec(),
             vec![
                 step(19),
                 step(16),
@@ -226,7 +226,7 @@ fn ceilings() -> Vec<Ceiling> {
             ],
         ),
         (
-            readers([31, 31, 2, 0]).to_vec(),
+            [&readers([MOST, MOST, REST, 0])[..], &[step(19)]].concat(),
             vec![
                 step(19),
                 step(19).at(1),
@@ -239,7 +239,12 @@ fn ceilings() -> Vec<Ceiling> {
         ),
         // A loader at a full bucket, and then with one reader less.
         (
-            [&[step(11)], &readers([0, 31, 0, 0])[..], &[step(13).at(1)]].concat(),
+            [
+                &[step(11)],
+                &readers([0, MOST, 0, 0])[..],
+                &[step(13).at(1)],
+            ]
+            .concat(),
             vec![
                 step(13).at(1),
                 step(20).at(1),
@@ -252,12 +257,17 @@ fn ceilings() -> Vec<Ceiling> {
         ),
         // A loader and a full list: it cannot stay as a reader.
         (
-            [&[step(11), step(13), step(14)], &readers([16; 4])[..]].concat(),
+            [
+                &[step(11), step(13), step(14)],
+                &readers([EACH; 4])[..],
+                &[step(16).of(3)],
+            ]
+            .concat(),
             vec![step(16).of(3), step(20).at(2), step(16).of(3), step(19)],
         ),
         // An editor at a full bucket, without a bucket and with one.
         (
-            [load, edit, &readers([31, 0, 0, 0]), &[step(18)]].concat(),
+            [load, edit, &readers([MOST, 0, 0, 0]), &[step(18)]].concat(),
             vec![
                 step(18),
                 step(18).at(1),
@@ -268,14 +278,15 @@ fn ceilings() -> Vec<Ceiling> {
                 step(25),
             ],
         ),
-        // An editor and a full list: it can keep its claim, but it cannot stay
-        // as a reader. That its value is another one is told last.
+        // An editor and a full list: it cannot stay as a reader. That its value is
+        // another one is told last.
         (
-            [load, edit, &readers([15, 16, 16, 17])].concat(),
+            [load, edit, &readers([EACH - 1, EACH, EACH, EACH + 1])].concat(),
             vec![
                 step(9).of(1),
                 step(18).at(1),
                 step(9).of(1),
+                step(9).of(LOADED),
                 step(19).at(1),
                 step(20).at(3),
                 step(9).of(1),
@@ -283,13 +294,56 @@ fn ceilings() -> Vec<Ceiling> {
                 step(19),
             ],
         ),
-        // An editor at a full bucket and a full list: it can keep its claim, but
-        // it cannot become a reader before one has left, and then it stays
-        // counted. Then it goes. A claim without a bucket cannot become a reader
-        // at all, and the list is not asked for.
+        // An editor at a full bucket and a full list can leave.
         (
-            [load, edit, &readers([30, 31, 3, 0]), &[step(18)]].concat(),
+            [
+                load,
+                edit,
+                &readers([MOST, MOST - 1, REST + 1, 0]),
+                &[step(18).at(1)],
+            ]
+            .concat(),
             vec![
+                step(19).at(1),
+                step(29).of(9),
+                step(29).of(LOADED),
+                step(19).at(1),
+                step(29).of(9),
+            ],
+        ),
+        // The same, and the page is given back.
+        (
+            [
+                load,
+                edit,
+                &readers([MOST, 0, REST + 1, MOST - 1]),
+                &[step(18).at(3)],
+            ]
+            .concat(),
+            vec![
+                step(19).at(3),
+                step(30).of(9),
+                step(30).of(LOADED),
+                step(19).at(3),
+                step(20).at(2),
+                step(19).at(3).times(2),
+                step(30).of(9),
+                step(11),
+            ],
+        ),
+        // It can keep its claim, too, but it cannot become a reader before one has
+        // left, and then it stays counted. Then it goes. A claim without a bucket
+        // cannot become a reader at all, and the list is not asked for.
+        (
+            [
+                load,
+                edit,
+                &readers([MOST - 1, MOST, REST + 1, 0]),
+                &[step(18), step(9).of(LOADED)],
+            ]
+            .concat(),
+            vec![
+                step(10).of(9),
                 step(10).of(LOADED),
                 step(26),
                 step(20).at(2),
@@ -304,31 +358,6 @@ fn ceilings() -> Vec<Ceiling> {
                 step(26),
                 step(25),
                 step(26),
-            ],
-        ),
-        // An editor at a full bucket and a full list can leave, too.
-        (
-            [load, edit, &readers([31, 30, 3, 0]), &[step(18).at(1)]].concat(),
-            vec![
-                step(19).at(1),
-                step(29).of(9),
-                step(29).of(LOADED),
-                step(19).at(1),
-                step(29).of(9),
-            ],
-        ),
-        // The same, and the page is given back.
-        (
-            [load, edit, &readers([31, 0, 3, 30]), &[step(18).at(3)]].concat(),
-            vec![
-                step(19).at(3),
-                step(30).of(9),
-                step(30).of(LOADED),
-                step(19).at(3),
-                step(20).at(2),
-                step(19).at(3).times(2),
-                step(30).of(9),
-                step(11),
             ],
         ),
     ]
@@ -421,7 +450,7 @@ fn visits(own: u8) -> Vec<Draft> {
 }
 
 /// All scripts but the situations.
-pub fn play(stream: &mut Stream, random: &mut Random) {
+pub fn play(stream: &mut Stream, random: &mut Random, plan: &Plan) {
     play_cases(stream);
     for script in EQUAL_READERS {
         stream.play(&LOAD);
@@ -430,13 +459,7 @@ pub fn play(stream: &mut Stream, random: &mut Random) {
             stream.look();
         }
     }
-    for (filled, asked) in ceilings() {
-        stream.play(&filled);
-        for request in records(&asked) {
-            ask_twice(stream, &request);
-        }
-        stream.look();
-    }
+    play_ceilings(stream, plan);
     for bucket in 0..4 {
         stream.play(&visits(bucket));
         stream.look();
@@ -449,6 +472,23 @@ pub fn play(stream: &mut Stream, random: &mut Random) {
         let script = values(value, random.number(), random.value());
         stream.fresh(value);
         stream.run_all(&records(&script));
+        stream.look();
+    }
+}
+
+/// Each ceiling by single requests. Some pages are then read as they were filled, and
+/// asked the same in a run.
+fn play_ceilings(stream: &mut Stream, plan: &Plan) {
+    for (filled, asked) in ceilings() {
+        stream.play(&filled);
+        for request in records(&asked) {
+            ask_twice(stream, &request);
+        }
+        stream.look();
+    }
+    for (filled, asked) in plan.share(ceilings(), 10) {
+        stream.read_page(&page_after(&filled));
+        stream.run_all(&records(&asked));
         stream.look();
     }
 }

@@ -2,6 +2,7 @@
 //! by a script, with readers beside wherever there may be some.
 
 use super::request::{records, step, Draft};
+use crate::kinds::{CAPACITY, CEILING};
 use crate::record::{fresh, Page};
 use crate::run::answer_line;
 
@@ -10,6 +11,15 @@ pub const LOADED: u64 = 7;
 
 /// A value that a loaded page does not have.
 pub const OTHER: u64 = LOADED + 1;
+
+/// The most readers that a bucket can have.
+pub const MOST: usize = CEILING.0 as usize;
+
+/// So many readers at each bucket fill the list.
+pub const EACH: usize = CAPACITY / 4;
+
+/// So many more fill it where two buckets have the most.
+pub const REST: usize = CAPACITY - 2 * MOST;
 
 /// The two ways to a loader that has the page and no bucket.
 pub const PREFETCHES: [&[Draft]; 2] = [&[step(12)], &[step(11), step(15)]];

@@ -1,10 +1,12 @@
 //! A stream in the making. It does each operation as it is written, so that
 //! the page it will meet is always known.
 
+use super::image::{of, Image};
 use super::request::{records, Draft};
 use crate::drill::{Drill, Operation};
+use crate::image::read_image;
 use crate::pieces::Carry;
-use crate::raw::{write_raw, IMAGE};
+use crate::raw::IMAGE;
 use crate::record::Page;
 use crate::wire::RECORD;
 
@@ -14,6 +16,8 @@ pub struct Stream {
     drill: Drill,
     /// Whether the next single request has its page lent.
     lent: bool,
+    /// How many images were read that can be short or long.
+    either: usize,
 }
 
 impl Stream {
@@ -23,6 +27,7 @@ impl Stream {
             bytes: Vec::new(),
             drill: Drill::start(),
             lent: false,
+            either: 0,
         }
     }
 
@@ -116,6 +121,24 @@ impl Stream {
         self.push(8, 0, bytes);
     }
 
+    /// These bytes are read, or just as many of them as a short image has, which is
+    /// cheaper: by turns one long image, and two short ones.
+    pub fn read_either(&mut self, image: &Image) {
+        let long = self.either.is_multiple_of(3);
+        self.either += 1;
+        self.read_image(if long { &image.0 } else { image.short() });
+    }
+
+    /// The image of this sound page is read; where it has a short one, either.
+    pub fn read_page(&mut self, page: &Page) {
+        let image = of(page);
+        if read_image(image.short()).answer.is_ok() {
+            self.read_either(&image);
+        } else {
+            self.read_image(&image.0);
+        }
+    }
+
     /// The page's image written, with so much room.
     pub fn write_image(&mut self, room: usize) {
         self.push(9, room as u64, &[]);
@@ -146,11 +169,12 @@ impl Stream {
         self.push(12, 0, bytes);
     }
 
-    /// The page's image written, and read back: the same page goes on.
+    /// The page's image written, and read back, or its short one in its place: the
+    /// same page goes on.
     pub fn restart(&mut self) {
         self.write_image(IMAGE);
-        let image = write_raw(self.page());
-        self.read_image(&image);
+        let page = self.page().clone();
+        self.read_page(&page);
     }
 }
 

@@ -5,10 +5,11 @@ use super::clean::DEPOSITS;
 use super::damage::one_wrong;
 use super::random::Random;
 use super::request::{records, step, Draft};
+use super::scripts::ceilings;
 use super::situations::PREFETCHES;
 use super::stream::Stream;
 use super::Plan;
-use crate::kinds::{ExcState, Refusal, SharedState};
+use crate::kinds::{ExcState, Refusal, SharedState, CAPACITY, CEILING};
 use crate::raw::IMAGE;
 use crate::record::Page;
 use crate::run::answer_line;
@@ -23,9 +24,13 @@ struct Mix {
     load: Option<fn(&mut Random) -> Vec<Draft>>,
     /// How many requests a walk makes before the next one starts.
     length: usize,
+    /// How often a request is drawn until the page accepts it.
+    tries: usize,
 }
 
-const MIXES: [Mix; 6] = [READERS, LOADERS, EDITORS, RETURNS, ARCHIVE, EVERYTHING];
+const MIXES: [Mix; 7] = [
+    READERS, CROWDED, LOADERS, EDITORS, RETURNS, ARCHIVE, EVERYTHING,
+];
 
 /// Readers come and go, and more of them come than go, until the list is full.
 /// Among them are claimants that change their mind.
@@ -37,7 +42,22 @@ const READERS: Mix = Mix {
         (1, &[3, 25, 26]),
     ],
     load: Some(load),
-    length: 400,
+    length: 1_200,
+    tries: TRIES,
+};
+
+/// Where there is hardly any room: whoever needs some of the list or of a count, and
+/// readers that leave. Many are refused.
+const CROWDED: Mix = Mix {
+    steps: &[
+        (24, &[19]),
+        (6, &[9, 13, 16, 18, 20, 26]),
+        (2, &[4, 10, 14, 21, 22, 23, 24]),
+        (1, &[1, 2, 3, 5, 11, 15, 17, 25, 27, 29, 30]),
+    ],
+    load: Some(crowd),
+    length: 100,
+    tries: 2,
 };
 
 /// Loaders, until the page is there, and whoever comes next. Nobody unmaps it,
@@ -49,6 +69,7 @@ const LOADERS: Mix = Mix {
     ],
     load: None,
     length: 20,
+    tries: TRIES,
 };
 
 /// Claimants and editors all the way, and a few readers in their way. Seldom one
@@ -62,6 +83,7 @@ const EDITORS: Mix = Mix {
     ],
     load: Some(load),
     length: 300,
+    tries: TRIES,
 };
 
 /// Claimants and editors who give back what they have, and loaders who come
@@ -76,6 +98,7 @@ const RETURNS: Mix = Mix {
     ],
     load: Some(load),
     length: 200,
+    tries: TRIES,
 };
 
 /// The archive beside a claim, on a page that was loaded without a bucket.
@@ -88,6 +111,7 @@ const ARCHIVE: Mix = Mix {
     ],
     load: Some(prefetch),
     length: 200,
+    tries: TRIES,
 };
 
 /// All steps. Those on the way to the page come more often than those that lead
@@ -106,9 +130,10 @@ const EVERYTHING: Mix = Mix {
     ],
     load: None,
     length: 60,
+    tries: TRIES,
 };
 
-/// How often a request is drawn again until the page accepts it.
+/// How often a request is drawn in most walks, so that most are accepted.
 const TRIES: usize = 20;
 
 /// The longest run in a walk.
@@ -128,8 +153,9 @@ pub fn play(stream: &mut Stream, random: &mut Random, plan: &Plan) -> Vec<Page> 
     pages
 }
 
-/// One walk from a fresh page, with looks strewn in, with images where the
-/// exclusive holder is another than before, and in a long stream with restarts.
+/// One walk from a fresh page, with looks strewn in, seldom where the list is long,
+/// with images where the exclusive holder is another than before, and in a long
+/// stream with restarts.
 fn walk(
     stream: &mut Stream,
     random: &mut Random,
@@ -147,7 +173,7 @@ fn walk(
     while left > 0 {
         let holder = stream.page().exc_state;
         left -= go_on(stream, random, &hand, left);
-        if random.one_in(3) {
+        if random.one_in(3 + stream.page().shared_state.listed().len() / 8) {
             stream.look();
         }
         if stream.page().exc_state != holder && random.one_in(12) {
@@ -168,6 +194,11 @@ fn load(random: &mut Random) -> Vec<Draft> {
     let bucket = random.byte_below(4);
     let last = step(16 + random.byte_below(2)).of(random.value());
     vec![step(11), step(13).at(bucket), step(14), last]
+}
+
+/// What fills the page up to one of the ceilings.
+fn crowd(random: &mut Random) -> Vec<Draft> {
+    random.pick(&ceilings()).0
 }
 
 /// A load without a bucket, beside readers at bucket 0 and at any.
@@ -203,6 +234,7 @@ fn go_on(stream: &mut Stream, random: &mut Random, hand: &Hand, left: usize) -> 
 pub struct Hand {
     steps: Vec<u8>,
     bucket: u8,
+    tries: usize,
 }
 
 impl Hand {
@@ -212,13 +244,17 @@ impl Hand {
         Hand {
             steps: steps.collect(),
             bucket,
+            tries: mix.tries,
         }
     }
 
     /// One for a page that came from elsewhere: it knows what the holders can
-    /// do next, because a look does not show them.
+    /// do next, because a look does not show them, and where there is no room.
     pub fn for_page(page: &Page) -> Hand {
-        let mix = if page.exc_state.is_some() {
+        let full = page.shared_state.listed().len() == CAPACITY;
+        let mix = if full || page.ref_counts.contains(&CEILING) {
+            CROWDED
+        } else if page.exc_state.is_some() {
             EDITORS
         } else if page.loading_state.is_some() {
             LOADERS
@@ -255,7 +291,7 @@ impl Hand {
     /// value alone will do, too.
     fn accepted(&self, random: &mut Random, page: &Page) -> [u8; RECORD] {
         let mut request = self.fitting(random, page);
-        for _ in 1..TRIES {
+        for _ in 1..self.tries {
             match answer_line(&mut page.clone(), &request) {
                 Ok(_) | Err(Refusal::OtherValue) => break,
                 Err(_) => request = self.fitting(random, page),

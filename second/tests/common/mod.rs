@@ -6,6 +6,8 @@
 pub mod history;
 pub mod lists;
 
+use std::rc::Rc;
+
 use second::drill::{Drill, Operation};
 use second::kinds::{Answer, BucketId, Request, SharedState};
 use second::pieces::Carry;
@@ -48,13 +50,14 @@ pub struct Walk {
 }
 
 /// One request, single, in a run that was not refused as a whole or in a piece that
-/// was not, and its operation (2, 3, 4 or 10).
+/// was not, and its operation (2, 3, 4 or 10). Pages that are equal one after the
+/// other are there once, because they are large.
 pub struct Asked {
     pub operation: u8,
-    pub before: Page,
+    pub before: Rc<Page>,
     pub bytes: Vec<u8>,
     pub answer: Answer,
-    pub after: Page,
+    pub after: Rc<Page>,
 }
 
 /// All requests of a stream. On the way it is seen that the drill leaves the
@@ -100,16 +103,22 @@ fn answer(page: &mut Page, carry: &Carry, operation: &Operation) -> Vec<Asked> {
     let single = matches!(operation.number, 2 | 3);
     let length = if single { asked.len() } else { 16 };
     let mut answered = Vec::new();
+    let mut before = Rc::new(page.clone());
     for bytes in asked.chunks(length.max(1)) {
-        let before = page.clone();
         let answer = answer_line(page, bytes);
+        let after = if *page == *before {
+            Rc::clone(&before)
+        } else {
+            Rc::new(page.clone())
+        };
         answered.push(Asked {
             operation: operation.number,
             before,
             bytes: bytes.to_vec(),
             answer,
-            after: page.clone(),
+            after: Rc::clone(&after),
         });
+        before = after;
     }
     answered
 }

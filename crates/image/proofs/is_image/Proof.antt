@@ -1,17 +1,42 @@
--- `image::is_image` meets its contract: the page's image is made again, and compared. Assumes nothing.
-use mathlib.Core.Path.{refl, ap, _∙_}
+-- `image::is_image` meets its contract: the page's image is made again, and compared, or as much of it as a short one has. Assumes nothing.
+use Prim.Native.Nat.{ℕ}
+use mathlib.Core.List.{List}
+use mathlib.Core.Path.{_≡_, refl, sym, ap, _∙_}
+use native.Mathlib.Omega.{arith}
 use borrow.Author.Needs.{needs}
-use Rattle.image.specs.Keeping.{sameBytes, isImage}
+use lib.ListN.{length, take}
+use lib.Seq.{length-take-le}
+use Rattle.kinds.specs.Limits.{capacity}
+use Rattle.image.specs.Images.{wholeSize, shortSize}
+use Rattle.image.specs.Keeping.{sameBytes}
+use Rattle.image.proofs.Rooms.{length-image}
+use Rattle.image.proofs.Lengths.{image-other, image-short}
 use Rattle.image.proofs.is_image.Statement.{statement}
 use Rattle.image.proofs.is_image.Tie as tie
 
 pub is-image-spec : {M : Type 1} → statement M
-unfolding isImage
 is-image-spec =
     tie.close
     (tie.spec
     (λ c. search needs)
     (λ c κs. refl)
     (λ c. search needs)
+    (λ c.
+    let p = c .before .before .before .put-image in
+    let long : length (p .last .1 .0) ≡ wholeSize = ap length (p .ensures) ∙ length-image capacity _ in
+    sym (length-take-le shortSize (p .last .1 .0) (omega arith)))
     (λ c κs. tt)
-    (λ c. c .same .ensures ∙ ap (sameBytes (c .before .before .before .before .before .before .args .image .now)) (c .before .before .before .put-image .ensures)))
+    (λ c.
+    let t = c .before .before in
+    let a = c .before .before .before .before .before .before .before .args in
+    c .same .ensures
+    ∙ ap (λ (z : List ℕ). sameBytes (a .image .now) (take shortSize z)) (c .before .before .before .before .put-image .ensures)
+    ∙ sym (image-short (a .image .now) (a .page) (t .if1 .taken)))
+    (λ c. search needs)
+    (λ c κs. tt)
+    (λ c.
+    let t = c .before .before in
+    let a = c .before .before .before .before .before .before .before .args in
+    c .same2 .ensures
+    ∙ ap (sameBytes (a .image .now)) (c .before .before .before .before .put-image .ensures)
+    ∙ sym (image-other (a .image .now) (a .page) (t .if1 .left))))

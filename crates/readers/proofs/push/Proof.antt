@@ -1,6 +1,7 @@
 -- `readers::push` meets its contract: each return, by the test for room. Assumes nothing.
 use borrow.Author.Needs.{needs}
 use borrow.Author.Tests.{le-ltb, lt-ltb}
+use Rattle.kinds.specs.Limits.{capacity}
 use Rattle.readers.specs.Listed.{pushed}
 use Rattle.readers.proofs.push.Statement.{statement}
 use Rattle.readers.proofs.push.Tie as tie
@@ -13,5 +14,5 @@ push-spec =
     (λ c. search needs)
     (λ c. search needs)
     (λ c. search needs)
-    (λ c. simp (lt-ltb _ _ (c .before .if1 .taken)))
-    (λ c. simp (le-ltb _ _ (c .if1 .left))))
+    (λ c. simp (lt-ltb _ capacity (c .before .if1 .taken)))
+    (λ c. simp (le-ltb _ capacity (c .if1 .left))))

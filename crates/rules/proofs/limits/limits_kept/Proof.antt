@@ -14,7 +14,7 @@ returns c =
     let full = eq-eqb _ _ (simp length-map at (buckets .before .before .before .good .1 .0 .1 .1 .0 .1 .0 .1)) in
     simp (
       c .holders-within .ensures,
-      counts .counts-within .ensures,
+      counts .counts-under .ensures,
       blanks .blank-past .ensures,
       buckets .buckets-within .ensures,
       full,
