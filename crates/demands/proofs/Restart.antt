@@ -1,13 +1,13 @@
 -- The demands for images, proved: the numbers and the round trips are those of `image`, and demand 3 from a page that was read is an
 -- instance of demand 3 from any sound page. Assumes nothing.
-use Prim.Native.Nat.{ℕ, _-_}
+use Prim.Native.Nat.{ℕ}
 use mathlib.Core.Path.{_≡_, refl, sym, ap, subst, _∙_}
 use mathlib.Core.Logic.{_↔_}
 use mathlib.Core.Bool.{Bool, true, false, not, _||_, true≢false}
 use mathlib.Core.List.{List, _++_, append-nil}
 use native.Mathlib.Omega.{arith}
 use lib.Dec.{T}
-use lib.ListN.{length, drop, replicate, drop-of-length-le}
+use lib.ListN.{length, drop, drop-of-length-le}
 use Rattle.laws.specs.Tables.{appliesIn}
 use Rattle.laws.proofs.Tests.{to-true}
 use Rattle.laws.proofs.Tables.{first-lowest, first-none}
@@ -19,17 +19,17 @@ use Rattle.requests.specs.Premises.{verdict}
 use Rattle.requests.proofs.Verdicts.{passed}
 use Rattle.wire.specs.Bytes.{Bytes}
 use Rattle.wire.proofs.Premises.{answer-passed}
-use Rattle.image.specs.Images.{wholeSize, shortBy, imageOf, InRange}
-use Rattle.image.specs.Keeping.{limitsBy, ImageUnder, restoredFrom, keepable, keptAnswer, keptIn}
+use Rattle.image.specs.Images.{wholeSize, imageOf, InRange}
+use Rattle.image.specs.Keeping.{limitsBy, ImageUnder, restored, restoredFrom, keepable, keptAnswer, keptIn}
 use Rattle.image.specs.Applies.{isSoundImage, applyingRead, applyingWrite}
 use Rattle.image.proofs.Rooms.{length-image, image-longer}
 use Rattle.image.proofs.Lengths.{by-short, by-other, sound-today}
-use Rattle.image.proofs.Trips.{in-range, Accepted, accepted, refused-fresh, restored-sound, four-refused, write-read, read-write}
+use Rattle.image.proofs.Trips.{in-range, Accepted, accepted, refused-fresh, restored-sound, four-refused, write-read}
 use Rattle.image.proofs.Trips.{image-iff, accepts-images, image-injective}
-use Rattle.image.proofs.Short.{short-read}
+use Rattle.image.proofs.Short.{short-write, short-read}
 use Rattle.image.proofs.Written.{write-whole, write-untouched, write-first, write-past}
 use Rattle.image.proofs.Least.{read-number, read-plain, write-number, write-plain}
-use Rattle.demands.specs.Restart.{Long, restored, Demand1Image, Demand1Keep, Demand2Image, Demand2Short, Demand3Image}
+use Rattle.demands.specs.Restart.{Long, Demand1Image, Demand1Keep, Demand2Image, Demand2Short, Demand3Image}
 use Rattle.demands.proofs.Demand1.{accepts-none}
 use Rattle.demands.proofs.Demand3.{demand3-from}
 use Rattle.demands.proofs.Lines.{demand3-runs-from}
@@ -45,10 +45,8 @@ last-row false = (λ e. absurd (true≢false e), λ t. absurd t)
 sixteen-under : (l : List ℕ) (limits : Limits) → limitsBy (length l) ≡ limits → Bytes l
     → (appliesIn (applyingRead l) 16 ≡ false) ↔ ImageUnder limits l
 sixteen-under l limits by bytes =
-    let iff = image-iff l bytes in (
-      λ e. subst (λ (x : Limits). ImageUnder x l) by (iff .0 (last-row (isSoundImage l) .0 e)),
-      λ t. last-row (isSoundImage l) .1 (iff .1 (subst (λ (x : Limits). ImageUnder x l) (sym by) t)),
-    )
+    let iff = image-iff l bytes in
+    rw (← by) (λ e. iff .0 (last-row (isSoundImage l) .0 e), λ t. last-row (isSoundImage l) .1 (iff .1 t))
 
 pub demand1-image : (l : List ℕ) → Demand1Image l
 unfolding soundOf
@@ -56,7 +54,7 @@ demand1-image l = record {
   given = λ n k. rw (read-number l) (first-lowest (applyingRead l) tt n k);
   accepted = accepts-none _ (applyingRead l) (read-plain l) (read-number l) (first-none (applyingRead l) tt);
   sixteen = λ long. sixteen-under l today (by-other (length l) long);
-  sixteen-short = λ size. sixteen-under l short (ap limitsBy size ∙ by-short);
+  sixteen-short = λ size. sixteen-under l short (by-short (length l) size);
   four = four-refused l;
   fresh = refused-fresh l;
   sound = restored-sound l;
@@ -114,10 +112,8 @@ pub demand2-short : Demand2Short
 demand2-short = record {
   lengthens = λ p few. image-longer shortCapacity capacity p few (omega arith);
   short-read = λ l p size bytes. short-read l p bytes size;
-  short-write = λ l p size e.
-      let zeros : wholeSize - length l ≡ shortBy = omega arith in
-      read-write l p e ∙ ap (λ (n : ℕ). l ++ replicate n 0) zeros;
-  accepts-short = λ l size. accepts-under l short (ap limitsBy size ∙ by-short);
+  short-write = short-write;
+  accepts-short = λ l size. accepts-under l short (by-short (length l) size);
 }
 
 -- ---- demand 3

@@ -18,9 +18,8 @@ use Rattle.soundness.specs.Soundness.{fitsUnder, soundOf}
 use Rattle.requests.specs.declared.{Refusal.Refusal, Answer.Answer, Request.Request}
 use Rattle.requests.specs.Answers.{answerNumber}
 use Rattle.wire.specs.Bytes.{Bytes}
-use Rattle.image.specs.declared.Restored.{Restored}
 use Rattle.image.specs.Images.{wholeSize, shortSize, imageOf, lengthened, InRange}
-use Rattle.image.specs.Keeping.{knownSize, ImageUnder, restoredFrom, keptAnswer, keptIn}
+use Rattle.image.specs.Keeping.{knownSize, ImageUnder, restored, restoredFrom, keptAnswer, keptIn}
 use Rattle.image.specs.Applies.{applyingRead, applyingWrite}
 use Rattle.demands.specs.History.{Event, Given, startOf, after, history, afterRuns, runsHistory}
 use Rattle.demands.specs.Before.{AsIf}
@@ -37,10 +36,6 @@ Long l = length l ≡ shortSize → ⊥
 -- they are the short image of some page that is sound under the short limits
 abbrev pub ShortImageOfSound : List ℕ → Type 0
 ShortImageOfSound l = ImageUnder short l
-
--- a page is read
-abbrev pub restored : Page → Restored
-restored p = record { answer = Answer.Accepted; page = p }
 
 -- ---- any bytes that are read as an image
 pub record Demand1Image (l : List ℕ) : Type 0 where

@@ -1,9 +1,9 @@
 -- What the length of bytes stands for: which limits it gives, that these are among today's, and what is asked under them of a page and of
 -- the bytes. Assumes nothing.
 use Prim.Native.Nat.{ℕ, _≤_}
-use mathlib.Core.Bool.{Bool, true, false, not, cond, _&&_, _||_}
+use mathlib.Core.Bool.{Bool, true, false, cond, _&&_}
 use mathlib.Core.List.{List}
-use mathlib.Core.Path.{_≡_, refl, sym, ap, _∙_}
+use mathlib.Core.Path.{_≡_, sym, ap, _∙_}
 use native.Mathlib.Omega.{arith}
 use borrow.Author.Tests.{ne-eqb}
 use lib.Dec.{T, eqb}
@@ -17,9 +17,9 @@ use Rattle.image.specs.Keeping.{sameBytes, knownSize, limitsBy, isImage}
 use Rattle.image.proofs.Rooms.{image-first}
 
 -- ---- which limits it gives
-pub by-short : limitsBy shortSize ≡ short
+pub by-short : (size : ℕ) → size ≡ shortSize → limitsBy size ≡ short
 unfolding limitsBy
-by-short = refl
+by-short size e = rw e
 
 pub by-other : (size : ℕ) → (size ≡ shortSize → ⊥) → limitsBy size ≡ today
 unfolding limitsBy
@@ -46,17 +46,6 @@ pub known-short : T (knownSize shortSize)
 unfolding knownSize
 known-short = tt
 
--- told by the test that it is neither
-neither : (a b t : Bool) → (not a && not b) ≡ t → (b || a) ≡ not t
-neither true true t e = ap not e
-neither true false t e = ap not e
-neither false true t e = ap not e
-neither false false t e = ap not e
-
-pub known-by : (size : ℕ) (t : Bool) → (not (eqb size wholeSize) && not (eqb size shortSize)) ≡ t → knownSize size ≡ not t
-unfolding knownSize
-known-by size t e = neither (eqb size wholeSize) (eqb size shortSize) t e
-
 -- ---- what is asked of a page
 pub sound-other : (size : ℕ) (p : Page) → (size ≡ shortSize → ⊥) → soundUnder (limitsBy size) p ≡ soundOf p
 unfolding soundOf
@@ -64,9 +53,7 @@ sound-other size p h = ap (λ (x : Limits). soundUnder x p) (by-other size h)
 
 pub sound-short : (size : ℕ) (p : Page) → size ≡ shortSize → soundUnder (limitsBy size) p ≡ (soundOf p && fitsUnder short p)
 sound-short size p e =
-    ap (λ (n : ℕ). soundUnder (limitsBy n) p) e
-    ∙ ap (λ (x : Limits). soundUnder x p) by-short
-    ∙ sound-under short p (omega arith) (omega arith)
+    ap (λ (x : Limits). soundUnder x p) (by-short size e) ∙ sound-under short p (omega arith) (omega arith)
 
 -- such a page is sound today
 pub sound-today : (size : ℕ) (p : Page) → T (soundUnder (limitsBy size) p) → T (soundOf p)
@@ -81,6 +68,5 @@ image-other l p h = ap (λ (x : Limits). sameBytes l (imageOf (x .readers) p)) (
 pub image-short : (l : List ℕ) (p : Page) → length l ≡ shortSize → isImage p l ≡ sameBytes l (take shortSize (imageOf capacity p))
 unfolding isImage
 image-short l p e =
-    ap (λ (n : ℕ). sameBytes l (imageOf (limitsBy n .readers) p)) e
-    ∙ ap (λ (x : Limits). sameBytes l (imageOf (x .readers) p)) by-short
+    ap (λ (x : Limits). sameBytes l (imageOf (x .readers) p)) (by-short (length l) e)
     ∙ ap (sameBytes l) (sym (image-first shortCapacity capacity p (omega arith)))

@@ -13,11 +13,9 @@ use Rattle.kinds.specs.Limits.{capacity, shortCapacity, Limits, today, short}
 use Rattle.page_record.specs.declared.Page.{Page}
 use Rattle.soundness.specs.Soundness.{soundUnder, fitsUnder, soundOf}
 use Rattle.soundness.proofs.Under.{sound-under}
-use Rattle.requests.specs.declared.Answer.{Answer}
 use Rattle.wire.specs.Bytes.{Bytes}
 use Rattle.image.specs.Images.{wholeSize, shortSize, shortBy, imageOf, lengthened, InRange}
-use Rattle.image.specs.declared.Restored.{Restored}
-use Rattle.image.specs.Keeping.{limitsBy, restoredFrom}
+use Rattle.image.specs.Keeping.{limitsBy, restored, restoredFrom}
 use Rattle.image.proofs.Rooms.{image-first}
 use Rattle.image.proofs.Lengths.{by-short, by-whole, sound-today}
 use Rattle.image.proofs.Trips.{parted, in-range, accepted, write-read, write-read-short, read-write}
@@ -30,8 +28,11 @@ bytes-zeros [] (suc n) b (suc i) = bytes-zeros [] n b i
 bytes-zeros (x ∷ l) n b zero = b 0
 bytes-zeros (x ∷ l) n b (suc i) = bytes-zeros l n (λ j. b (suc j)) i
 
-abbrev read : Page → Restored
-read p = record { answer = Answer.Accepted; page = p }
+-- read and written again
+pub short-write : (l : List ℕ) (p : Page) → length l ≡ shortSize → restoredFrom l ≡ restored p → imageOf capacity p ≡ lengthened l
+short-write l p size e =
+    let zeros : wholeSize - length l ≡ shortBy = omega arith in
+    read-write l p e ∙ ap (λ (n : ℕ). l ++ replicate n 0) zeros
 
 module _ (l : List ℕ) (p : Page) (bytes : Bytes l) (size : length l ≡ shortSize) where
   size-longer : length (lengthened l) ≡ wholeSize
@@ -40,19 +41,17 @@ module _ (l : List ℕ) (p : Page) (bytes : Bytes l) (size : length l ≡ shortS
       length-append l (replicate shortBy 0) ∙ omega arith
 
   -- with the zeros, under the short limits
-  there : restoredFrom l ≡ read p → (restoredFrom (lengthened l) ≡ read p) × T (fitsUnder short p)
+  there : restoredFrom l ≡ restored p → (restoredFrom (lengthened l) ≡ restored p) × T (fitsUnder short p)
   there e =
       let a = accepted l p e in
       let r = subst InRange (a .page) (in-range l bytes) in
-      let t = subst (λ (x : Limits). T (soundUnder x p)) (ap limitsBy size ∙ by-short) (a .sound) in
-      let zeros : wholeSize - length l ≡ shortBy = omega arith in
-      let image : imageOf capacity p ≡ lengthened l = read-write l p e ∙ ap (λ (n : ℕ). l ++ replicate n 0) zeros in (
-        ap restoredFrom (sym image) ∙ write-read p (sound-today (length l) p (a .sound)) r,
+      let t = subst (λ (x : Limits). T (soundUnder x p)) (by-short (length l) size) (a .sound) in (
+        ap restoredFrom (sym (short-write l p size e)) ∙ write-read p (sound-today (length l) p (a .sound)) r,
         parted short (omega arith) (omega arith) p t .1,
       )
 
   -- and without them
-  back : (restoredFrom (lengthened l) ≡ read p) × T (fitsUnder short p) → restoredFrom l ≡ read p
+  back : (restoredFrom (lengthened l) ≡ restored p) × T (fitsUnder short p) → restoredFrom l ≡ restored p
   back w =
       let a = accepted (lengthened l) p (w .0) in
       let r = subst InRange (a .page) (in-range (lengthened l) (bytes-zeros l shortBy bytes)) in
@@ -66,5 +65,5 @@ module _ (l : List ℕ) (p : Page) (bytes : Bytes l) (size : length l ≡ shortS
       ∙ take-at l (replicate shortBy 0) shortSize size in
       ap restoredFrom (sym first) ∙ write-read-short p t r
 
-  pub short-read : (restoredFrom l ≡ read p) ↔ ((restoredFrom (lengthened l) ≡ read p) × T (fitsUnder short p))
+  pub short-read : (restoredFrom l ≡ restored p) ↔ ((restoredFrom (lengthened l) ≡ restored p) × T (fitsUnder short p))
   short-read = (there, back)

@@ -38,7 +38,8 @@ use Rattle.image.specs.Images.{headSize, imageSize, wholeSize, shortSize
 use Rattle.image.specs.Images.{imageOf, InRange}
 use Rattle.image.specs.Decoding.{u64At, excFromBytes, headFrom, lengthFrom, readerFrom, readersFrom, pageFrom}
 use Rattle.image.specs.declared.Restored.{Restored}
-use Rattle.image.specs.Keeping.{sameBytes, knownSize, limitsBy, isImage, ImageUnder, readable, readVerdict, restoredAs, restoredFrom}
+use Rattle.image.specs.Keeping.{sameBytes, knownSize, limitsBy, isImage, ImageUnder, readable, readVerdict}
+use Rattle.image.specs.Keeping.{restored, restoredAs, restoredFrom}
 use Rattle.image.specs.Applies.{isSoundImage}
 use Rattle.image.proofs.Back.{flag-back, storage-back, writeback-back, phase-back, exc-back, loading-back, counts-back, length-back}
 use Rattle.image.proofs.Compared.{same-equal, same-refl}
@@ -250,7 +251,7 @@ pub record Accepted (l : List ℕ) (p : Page) : Type 0 where
   pub sound : T (soundUnder (limitsBy (length l)) p)
   pub image : imageOf (limitsBy (length l) .readers) p ≡ l
 
-pub accepted : (l : List ℕ) (p : Page) → restoredFrom l ≡ record { answer = Answer.Accepted; page = p } → Accepted l p
+pub accepted : (l : List ℕ) (p : Page) → restoredFrom l ≡ restored p → Accepted l p
 unfolding restoredFrom readVerdict isImage
 accepted l p e = go (readVerdict (pageFrom l) l) refl
   where
@@ -321,7 +322,7 @@ four-refused l known four = go (soundUnder (limitsBy (length l)) (pageFrom l) &&
 -- ---- there and back
 -- bytes that are judged well
 read-as : (l : List ℕ) (p : Page) → pageFrom l ≡ p → T (knownSize (length l)) → T (soundUnder (limitsBy (length l)) p) → T (isImage p l)
-    → restoredFrom l ≡ record { answer = Answer.Accepted; page = p }
+    → restoredFrom l ≡ restored p
 unfolding restoredFrom readVerdict
 read-as l p e known sound image =
     ap (λ (q : Page). restoredAs q (readVerdict q l)) e
@@ -334,7 +335,7 @@ read-as l p e known sound image =
 -- an image of known length that is that of its own limits
 module _ (limits : Limits) (own : limitsBy (imageSize (limits .readers)) ≡ limits) (known : T (knownSize (imageSize (limits .readers)))) where
   pub write-read-under : (p : Page) → T (soundUnder limits p) → InRange p
-      → restoredFrom (imageOf (limits .readers) p) ≡ record { answer = Answer.Accepted; page = p }
+      → restoredFrom (imageOf (limits .readers) p) ≡ restored p
   unfolding isImage
   write-read-under p t r =
       let l = imageOf (limits .readers) p in
@@ -352,16 +353,16 @@ module _ (limits : Limits) (own : limitsBy (imageSize (limits .readers)) ≡ lim
 
 -- today's, and a short one
 pub write-read : (p : Page) → T (soundOf p) → InRange p
-    → restoredFrom (imageOf capacity p) ≡ record { answer = Answer.Accepted; page = p }
+    → restoredFrom (imageOf capacity p) ≡ restored p
 unfolding soundOf
 write-read = write-read-under today by-whole known-whole
 
 pub write-read-short : (p : Page) → T (soundUnder short p) → InRange p
-    → restoredFrom (imageOf shortCapacity p) ≡ record { answer = Answer.Accepted; page = p }
-write-read-short = write-read-under short by-short known-short
+    → restoredFrom (imageOf shortCapacity p) ≡ restored p
+write-read-short = write-read-under short (by-short shortSize refl) known-short
 
 -- read and written again: the bytes, and zeros where they were few
-pub read-write : (l : List ℕ) (p : Page) → restoredFrom l ≡ record { answer = Answer.Accepted; page = p }
+pub read-write : (l : List ℕ) (p : Page) → restoredFrom l ≡ restored p
     → imageOf capacity p ≡ l ++ replicate (wholeSize - length l) 0
 read-write l p e =
     let a = accepted l p e in
@@ -418,15 +419,15 @@ image-iff l bytes = (there, back)
 
 -- reading accepts exactly these
 pub accepts-images : (l : List ℕ) → Bytes l
-    → ((p : Page) × (restoredFrom l ≡ record { answer = Answer.Accepted; page = p })) ↔ ImageUnder (limitsBy (length l)) l
+    → ((p : Page) × (restoredFrom l ≡ restored p)) ↔ ImageUnder (limitsBy (length l)) l
 accepts-images l bytes = (there, back)
   where
-    there : (p : Page) × (restoredFrom l ≡ record { answer = Answer.Accepted; page = p }) → ImageUnder (limitsBy (length l)) l
+    there : (p : Page) × (restoredFrom l ≡ restored p) → ImageUnder (limitsBy (length l)) l
     there t =
         let a = accepted l (t .0) (t .1) in
         (t .0, a .sound, subst InRange (a .page) (in-range l bytes), a .image)
 
-    back : ImageUnder (limitsBy (length l)) l → (p : Page) × (restoredFrom l ≡ record { answer = Answer.Accepted; page = p })
+    back : ImageUnder (limitsBy (length l)) l → (p : Page) × (restoredFrom l ≡ restored p)
     back t =
         let p = t .0 in
         let said = image-said l p (t .1) (t .2) (t .3) in

@@ -51,9 +51,13 @@ readable p l =
 unfoldable pub readVerdict : Page → List ℕ → Verdict
 readVerdict p l = verdict (readable p l)
 
+-- a page is read
+abbrev pub restored : Page → Restored
+restored p = record { answer = Answer.Accepted; page = p }
+
 -- a refusal gives a fresh page of 0
 abbrev pub restoredAs : Page → Verdict → Restored
-restoredAs p Verdict.Passed = record { answer = Answer.Accepted; page = p }
+restoredAs p Verdict.Passed = restored p
 restoredAs p (Verdict.Failed why) = record { answer = Answer.Refused why; page = freshPage 0 }
 
 unfoldable pub restoredFrom : List ℕ → Restored

@@ -156,7 +156,7 @@ fn judge(page: Page, image: &[u8]) -> Verdict
     ensures { λ r. ⌜ r ≡ readVerdict page (now (image .entry)) ⌝ }
 {
     let size = image.len();
-    if (size != IMAGE) & (size != SHORT_IMAGE) {
+    if !((size == SHORT_IMAGE) | (size == IMAGE)) {
         return Verdict::Failed(Refusal::WrongSize);
     }
     if !is_sound_by(page, size) {

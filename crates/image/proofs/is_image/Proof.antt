@@ -28,15 +28,17 @@ is-image-spec =
     (λ c κs. tt)
     (λ c.
     let t = c .before .before in
-    let a = c .before .before .before .before .before .before .before .args in
+    let again = t .before .before in
+    let a = again .before .before .before .args in
     c .same .ensures
-    ∙ ap (λ (z : List ℕ). sameBytes (a .image .now) (take shortSize z)) (c .before .before .before .before .put-image .ensures)
+    ∙ ap (λ (z : List ℕ). sameBytes (a .image .now) (take shortSize z)) (again .put-image .ensures)
     ∙ sym (image-short (a .image .now) (a .page) (t .if1 .taken)))
     (λ c. search needs)
     (λ c κs. tt)
     (λ c.
     let t = c .before .before in
-    let a = c .before .before .before .before .before .before .before .args in
+    let again = t .before .before in
+    let a = again .before .before .before .args in
     c .same2 .ensures
-    ∙ ap (sameBytes (a .image .now)) (c .before .before .before .before .put-image .ensures)
+    ∙ ap (sameBytes (a .image .now)) (again .put-image .ensures)
     ∙ sym (image-other (a .image .now) (a .page) (t .if1 .left))))
