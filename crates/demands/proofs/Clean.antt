@@ -48,7 +48,7 @@ use Rattle.wire.proofs.Trips as Trips
 use Rattle.replay.specs.Turns.{turnOf}
 use Rattle.replay.specs.Run.{requestsOf, pageAfter, runVerdict, ends, ranOf}
 use Rattle.replay.proofs.Pages.{turn-read, turn-refused}
-use Rattle.image.specs.Decoding.{u64At, excFromBytes, headFrom, pageFrom}
+use Rattle.decoding.specs.Decoding.{u64At, excFromBytes, headFrom, pageFrom}
 use Rattle.image.specs.Keeping.{readVerdict, restoredAs, restoredFrom}
 use Rattle.demands.specs.History.{Event, event, after, lineEvent, runHistory, Given, added, accepted}
 use Rattle.demands.specs.Clean.{Asking, requests, lines, left, NoneBack, FirstBack, CleanMeansClean, CleanFirst, Clean, linesIn}

@@ -25,8 +25,8 @@ use Rattle.lock.specs.Step.{stepOf, lookFor, editedIn}
 use Rattle.lock.specs.Applies.{applies1, applies11, bucketWrong, valueOther, applying}
 use Rattle.lock.proofs.Least.{least-number}
 use Rattle.wire.specs.Bytes.{lineWith}
-use Rattle.image.specs.Images.{kindBytes, countBytes, valueBytes, entries, imageOf}
-use Rattle.image.specs.Decoding.{u64At, excFromBytes, headFrom, readerFrom, readersFrom, pageFrom}
+use Rattle.encoding.specs.Images.{kindBytes, countBytes, valueBytes, entries, imageOf}
+use Rattle.decoding.specs.Decoding.{u64At, excFromBytes, headFrom, readerFrom, readersFrom, pageFrom}
 use Rattle.image.specs.Keeping.{knownSize, limitsBy, isImage, readVerdict, restoredFrom}
 use Rattle.image.specs.Samples.{editingClean, value}
 use Rattle.replay.specs.Run.{runVerdict}

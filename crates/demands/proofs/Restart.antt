@@ -19,10 +19,10 @@ use Rattle.requests.specs.Premises.{verdict}
 use Rattle.requests.proofs.Verdicts.{passed}
 use Rattle.wire.specs.Bytes.{Bytes}
 use Rattle.wire.proofs.Premises.{answer-passed}
-use Rattle.image.specs.Images.{wholeSize, imageOf, InRange}
+use Rattle.encoding.specs.Images.{wholeSize, imageOf, InRange}
 use Rattle.image.specs.Keeping.{limitsBy, ImageUnder, restored, restoredFrom, keepable, keptAnswer, keptIn}
 use Rattle.image.specs.Applies.{isSoundImage, applyingRead, applyingWrite}
-use Rattle.image.proofs.Rooms.{length-image, image-longer}
+use Rattle.encoding.proofs.Rooms.{length-image, image-longer}
 use Rattle.image.proofs.Lengths.{by-short, by-other, sound-today}
 use Rattle.image.proofs.Trips.{in-range, Accepted, accepted, refused-fresh, restored-sound, four-refused, write-read}
 use Rattle.image.proofs.Trips.{image-iff, accepts-images, image-injective}

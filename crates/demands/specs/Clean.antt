@@ -15,7 +15,7 @@ use Rattle.lock.specs.Words.{puttingBack}
 use Rattle.lock.specs.Step.{stepOf}
 use Rattle.replay.specs.Turns.{turnOf}
 use Rattle.replay.specs.Run.{requestsOf, runVerdict, ranOf}
-use Rattle.image.specs.Decoding.{u64At}
+use Rattle.decoding.specs.Decoding.{u64At}
 use Rattle.image.specs.Keeping.{restoredFrom}
 use Rattle.demands.specs.History.{Event, event, lineEvent, runHistory, Given, afterRuns, runsHistory, accepted}
 

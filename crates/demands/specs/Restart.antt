@@ -18,7 +18,7 @@ use Rattle.soundness.specs.Soundness.{fitsUnder, soundOf}
 use Rattle.requests.specs.declared.{Refusal.Refusal, Answer.Answer, Request.Request}
 use Rattle.requests.specs.Answers.{answerNumber}
 use Rattle.wire.specs.Bytes.{Bytes}
-use Rattle.image.specs.Images.{wholeSize, shortSize, imageOf, lengthened, InRange}
+use Rattle.encoding.specs.Images.{wholeSize, shortSize, imageOf, lengthened, InRange}
 use Rattle.image.specs.Keeping.{knownSize, ImageUnder, restored, restoredFrom, keptAnswer, keptIn}
 use Rattle.image.specs.Applies.{applyingRead, applyingWrite}
 use Rattle.demands.specs.History.{Event, Given, startOf, after, history, afterRuns, runsHistory}

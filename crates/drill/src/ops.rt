@@ -120,7 +120,7 @@ pub fn write(payload: &[u8], buffer: &mut [u8]) {
 pub fn put(page: Page, payload: &[u8]) -> Page {
     if is_known(payload) {
         line(0);
-        return image::decode(payload);
+        return decoding::decode(payload);
     }
     line(NO_MEANING);
     page

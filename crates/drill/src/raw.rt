@@ -1,13 +1,13 @@
 // A page as it stands in the payload, at the places of an image: nothing is judged but whether each number stands for something.
 use crate::fields::byte_at;
-use image::CLEAN;
-use image::EXC;
-use image::FLAG;
-use image::IMAGE;
-use image::LOADER;
-use image::READERS;
-use image::STORED;
-use image::WRITEBACK;
+use encoding::CLEAN;
+use encoding::EXC;
+use encoding::FLAG;
+use encoding::IMAGE;
+use encoding::LOADER;
+use encoding::READERS;
+use encoding::STORED;
+use encoding::WRITEBACK;
 use kinds::CAPACITY;
 use kinds::LINE;
 

@@ -15,7 +15,7 @@ use Rattle.kinds.specs.Numbers.{flagNumber, storageNumber, bucketNumber, phaseN
 use Rattle.kinds.specs.Numbers.{flagFrom, storageFrom, bucketFrom, phaseFrom, excFrom, loadingFrom, writebackFrom, noBucket}
 use Rattle.page_record.specs.Holders.{validBucket, valueOf, excBucket, excVisited, excClean, excValue, loadingBucket, writebackValue}
 use Rattle.page_record.specs.Pages.{numberAt}
-use Rattle.image.specs.Carried.{phaseValue, excBucketNumber, loadingBucketNumber}
+use Rattle.encoding.specs.Carried.{phaseValue, excBucketNumber, loadingBucketNumber}
 
 pub flag-back : (f : Flag) → flagFrom (flagNumber f) ≡ f
 unfolding flagFrom

@@ -16,8 +16,8 @@ use Rattle.requests.specs.Premises.{verdict}
 use Rattle.requests.proofs.Verdicts.{verdict-number}
 use Rattle.wire.specs.Buffers.{answerFor}
 use Rattle.wire.proofs.Least.{answer-number, answer-plain}
-use Rattle.image.specs.Images.{wholeSize}
-use Rattle.image.specs.Decoding.{pageFrom}
+use Rattle.encoding.specs.Images.{wholeSize}
+use Rattle.decoding.specs.Decoding.{pageFrom}
 use Rattle.image.specs.Keeping.{readable, readVerdict, restoredAs, restoredFrom, keepable, keptAnswer}
 use Rattle.image.specs.Applies.{applyingRead, applyingWrite}
 

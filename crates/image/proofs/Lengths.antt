@@ -12,9 +12,9 @@ use Rattle.kinds.specs.Limits.{capacity, ceiling, shortCapacity, Limits, today,
 use Rattle.page_record.specs.declared.Page.{Page}
 use Rattle.soundness.specs.Soundness.{soundUnder, fitsUnder, soundOf}
 use Rattle.soundness.proofs.Under.{sound-under, sound-monotone}
-use Rattle.image.specs.Images.{wholeSize, shortSize, imageOf}
+use Rattle.encoding.specs.Images.{wholeSize, shortSize, imageOf}
 use Rattle.image.specs.Keeping.{sameBytes, knownSize, limitsBy, isImage}
-use Rattle.image.proofs.Rooms.{image-first}
+use Rattle.encoding.proofs.Rooms.{image-first}
 
 -- ---- which limits it gives
 pub by-short : (size : ℕ) → size ≡ shortSize → limitsBy size ≡ short

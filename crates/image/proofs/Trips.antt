@@ -33,17 +33,17 @@ use Rattle.requests.proofs.Verdicts.{passed}
 use Rattle.wire.specs.Bytes.{valueLimit, Bytes, number, lowBytes, lineWith}
 use Rattle.wire.proofs.Bytes.{number-lowBytes, number-below, bytes-take, bytes-drop}
 use Rattle.wire.proofs.Stores.{length-line-with}
-use Rattle.image.specs.Carried.{phaseValue, excBucketNumber, loadingBucketNumber}
-use Rattle.image.specs.Images.{headSize, imageSize, wholeSize, shortSize, kindBytes, countBytes, valueBytes, entryOf, entries}
-use Rattle.image.specs.Images.{imageOf, InRange}
-use Rattle.image.specs.Decoding.{u64At, excFromBytes, headFrom, lengthFrom, readerFrom, readersFrom, pageFrom}
+use Rattle.encoding.specs.Carried.{phaseValue, excBucketNumber, loadingBucketNumber}
+use Rattle.encoding.specs.Images.{headSize, imageSize, wholeSize, shortSize, kindBytes, countBytes, valueBytes, entryOf, entries}
+use Rattle.encoding.specs.Images.{imageOf, InRange}
+use Rattle.decoding.specs.Decoding.{u64At, excFromBytes, headFrom, lengthFrom, readerFrom, readersFrom, pageFrom}
 use Rattle.image.specs.declared.Restored.{Restored}
 use Rattle.image.specs.Keeping.{sameBytes, knownSize, limitsBy, isImage, ImageUnder, readable, readVerdict}
 use Rattle.image.specs.Keeping.{restored, restoredAs, restoredFrom}
 use Rattle.image.specs.Applies.{isSoundImage}
 use Rattle.image.proofs.Back.{flag-back, storage-back, writeback-back, phase-back, exc-back, loading-back, counts-back, length-back}
 use Rattle.image.proofs.Compared.{same-equal, same-refl}
-use Rattle.image.proofs.Rooms.{length-image, image-longer}
+use Rattle.encoding.proofs.Rooms.{length-image, image-longer}
 use Rattle.image.proofs.Lengths.{by-short, by-whole, within-today, known-whole, known-short, sound-today}
 
 -- ---- the head of an image is the page's

@@ -1,13 +1,11 @@
 -- What writing an image comes to, by what its code finds out: 1, then 15, else the image over the first bytes of the buffer. And what
 -- the buffer holds then: the image first, what stood past it as it was, and all of it as it was where the writing is refused. Assumes
 -- nothing.
-use Prim.Native.Nat.{ℕ, _-_, _<_, _≤_}
+use Prim.Native.Nat.{ℕ, _<_, _≤_}
 use mathlib.Core.Bool.{true, false}
 use mathlib.Core.List.{List, _++_}
-use mathlib.Core.Path.{_≡_, refl, ap, _∙_}
-use native.Mathlib.Omega.{arith}
+use mathlib.Core.Path.{_≡_, refl, ap}
 use borrow.Author.Tests.{le-leb, lt-leb}
-use borrow.Rule.Slice.PartMut.{putMid}
 use lib.ListN.{length, drop}
 use lib.Seq.{drop-at}
 use Rattle.kinds.specs.Limits.{capacity}
@@ -16,15 +14,9 @@ use Rattle.soundness.specs.Soundness.{soundOf}
 use Rattle.requests.specs.declared.{Refusal.Refusal, Answer.Answer, Verdict.Verdict}
 use Rattle.requests.specs.Premises.{verdict}
 use Rattle.wire.proofs.Premises.{answer-passed, answer-failed}
-use Rattle.image.specs.Images.{wholeSize, imageOf}
+use Rattle.encoding.specs.Images.{wholeSize, imageOf}
 use Rattle.image.specs.Keeping.{keepable, keptAnswer, filledAs, keptIn}
-use Rattle.image.proofs.Rooms.{length-image}
-
--- what is put over the first part of a slice
-pub first-part : (size : ℕ) (old ys bytes : List ℕ) → ys ≡ bytes → putMid 0 (size - 0) old ys ≡ bytes ++ drop size old
-first-part size old ys bytes e =
-    let w : size - 0 ≡ size = omega arith in
-    ap (λ (z : List ℕ). z ++ drop (size - 0) old) e ∙ ap (λ (n : ℕ). bytes ++ drop n old) w
+use Rattle.encoding.proofs.Rooms.{length-image}
 
 module _ (p : Page) (l : List ℕ) where
   pub write-unsound : soundOf p ≡ false → (Answer.Refused Refusal.Unsound ≡ keptAnswer p l) × (l ≡ keptIn p l)

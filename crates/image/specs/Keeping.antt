@@ -13,8 +13,8 @@ use Rattle.requests.specs.declared.{Refusal.Refusal, Answer.Answer, Verdict.Ver
 use Rattle.requests.specs.Premises.{verdict}
 use Rattle.wire.specs.Buffers.{answerFor}
 use Rattle.image.specs.declared.Restored.{Restored}
-use Rattle.image.specs.Images.{wholeSize, shortSize, imageOf, InRange}
-use Rattle.image.specs.Decoding.{pageFrom}
+use Rattle.encoding.specs.Images.{wholeSize, shortSize, imageOf, InRange}
+use Rattle.decoding.specs.Decoding.{pageFrom}
 
 -- ---- bytes that are the same
 abbrev pub sameBytes : List ℕ → List ℕ → Bool

@@ -15,7 +15,7 @@ use Rattle.page_record.specs.declared.Page.{Page}
 use Rattle.page_record.specs.Pages.{headWith, pageOf, freshPage}
 use Rattle.soundness.specs.Soundness.{soundUnder, soundOf}
 use Rattle.requests.specs.Answers.{answerNumber}
-use Rattle.image.specs.Images.{wholeSize, shortSize, shortBy, imageOf, lengthened}
+use Rattle.encoding.specs.Images.{wholeSize, shortSize, shortBy, imageOf, lengthened}
 use Rattle.image.specs.Keeping.{sameBytes, restoredFrom, keptAnswer}
 
 -- ---- images

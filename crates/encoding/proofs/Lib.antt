@@ -1,0 +1,4 @@
+pub mod Slices
+pub mod Listing
+pub mod Heading
+pub mod Rooms
