@@ -16,7 +16,7 @@ use Rattle.kinds.specs.Limits.{buckets}
 use Rattle.kinds.specs.Numbers.{phaseNumber}
 use Rattle.readers.specs.Listed.{live, blankReader}
 use Rattle.page_record.specs.declared.{Head.Head, Page.Page}
-use Rattle.page_record.specs.Holders.{isStored, isPending, isEditing, excVisited, excValue}
+use Rattle.page_record.specs.Holders.{isStored, isPending, isEditing, excVisited, excValue, noLoad}
 use Rattle.page_record.specs.Pages.{headOf, numberAt, freshPage}
 use Rattle.page_record.proofs.Inversions.{is-holding}
 use Rattle.soundness.specs.Soundness.{soundOf}
@@ -25,10 +25,10 @@ use Rattle.soundness.proofs.Known.{known, hold-iff, valid-phase, readerPending,
 use Rattle.soundness.proofs.FreshPage.{fresh-sound}
 use Rattle.soundness.proofs.Tested.{facts}
 use Rattle.requests.specs.declared.Request.{Request}
-use Rattle.demands.specs.History.{Event, Start, startOf, after, history, arrivals, departures, lastPut}
+use Rattle.demands.specs.History.{Event, Start, startOf, startWith, after, history, arrivals, departures, lastPut}
 use Rattle.demands.specs.History.{lastWithdrew, HandOuts}
 use Rattle.demands.specs.Demand3.{Listed, Demand3}
-use Rattle.demands.proofs.Told.{ToldOf, put-in, tells, start-told}
+use Rattle.demands.proofs.Told.{ToldOf, put-in, tells, start-told, start-unknown}
 use Rattle.demands.proofs.HandOuts.{history-hands}
 use Rattle.demands.proofs.Kept.{sound-after}
 
@@ -101,6 +101,13 @@ pub demand3-from : (p : Page) → T (soundOf p) → (qs : List Request) → Dema
 demand3-from p sound qs =
     demanded (startOf p) (after p qs) (history p qs []) (facts (after p qs) (sound-after p qs sound) .parts)
     (tells (startOf p) p [] qs sound (start-told p sound)) (history-hands p qs [] tt)
+
+-- beside a loader what was put in last is not known: whatever it was, the same holds
+pub demand3-unknown : (p : Page) → T (soundOf p) → T (not (noLoad (p .«loading_state»))) → (v : ℕ) (qs : List Request)
+    → Demand3 (startWith v p) (after p qs) (history p qs [])
+demand3-unknown p sound loads v qs =
+    demanded (startWith v p) (after p qs) (history p qs []) (facts (after p qs) (sound-after p qs sound) .parts)
+    (tells (startWith v p) p [] qs sound (start-unknown p sound loads v)) (history-hands p qs [] tt)
 
 -- ---- from a fresh page
 -- nothing has come, this value was put in, the page is in, and nobody loads or edits

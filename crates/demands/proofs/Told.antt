@@ -24,6 +24,7 @@ use Rattle.page_record.specs.Holders.{noLoad, isLoading, loadingBucket, valueOf
 use Rattle.page_record.specs.Pages.{numberAt, headOf}
 use Rattle.page_record.specs.References.{refAt}
 use Rattle.page_record.proofs.Inversions.{is-claim, is-await, is-pending, is-editing, is-waiting, is-counted, is-loading}
+use Rattle.rules.specs.Rules.{storageSomeInvariant}
 use Rattle.soundness.specs.Soundness.{soundOf}
 use Rattle.soundness.proofs.Facts.{Sound}
 use Rattle.soundness.proofs.Shapes.{rules-of, loads-alone}
@@ -43,7 +44,7 @@ use Rattle.lock.specs.Step.{lookFor, stepped, stepOf}
 use Rattle.lock.proofs.Keeps.Counts.{number-raise, number-lower}
 use Rattle.lock.proofs.Exact.Granted.{granted, exc-within}
 use Rattle.lock.proofs.Keeps.{step-keeps}
-use Rattle.demands.specs.History.{Event, Start, startOf, event, after, history, arrivals, departures, lastPut}
+use Rattle.demands.specs.History.{Event, Start, startOf, startWith, event, after, history, arrivals, departures, lastPut}
 use Rattle.demands.specs.History.{lastTaken, lastWithdrew, lastCounted, countedSince, editorNamed, HandedOut}
 
 -- ---- what is told
@@ -459,3 +460,24 @@ start-told p sound = record {
         → s ≡ cond (not (isStored s)) Storage.Out (Storage.In (cond (isStored s) (valueOf s) (excValue (p .«exc_state»))))
     as-kept Storage.Out = refl
     as-kept (Storage.In v) = refl
+
+-- .. and any value will do where the page is out with a loader
+pub start-unknown : (p : Page) → T (soundOf p) → T (not (noLoad (p .«loading_state»))) → (v : ℕ) → ToldOf (startWith v p) (headOf p) []
+start-unknown p sound loads v =
+    let r = rules-of (p .storage) (p .«exc_state») (p .«loading_state») (p .«writeback_state») (p .flag) (facts p sound .parts .head) in
+    let some = to-false (noLoad (p .«loading_state»)) loads in
+    let none = loads-alone (p .«exc_state») (p .storage) (p .«loading_state») (p .«writeback_state») (r .exc) some in
+    record {
+      balance = λ b. refl;
+      stored = go some (r .storage) (p .storage) refl;
+      counted = λ t. refl;
+      since = λ t. refl;
+      edited = λ t. refl;
+      kept = λ t. absurd (rw none at t);
+      handed = tt;
+    }
+  where
+    go : noLoad (p .«loading_state») ≡ false → T (storageSomeInvariant (p .storage) (p .«exc_state») (p .«loading_state»)) → (s : Storage)
+        → p .storage ≡ s → s ≡ cond (not (isStored s)) Storage.Out (Storage.In v)
+    go some rule Storage.Out e = refl
+    go some rule (Storage.In w) e = absurd (rw (e, some) at rule)

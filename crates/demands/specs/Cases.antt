@@ -234,6 +234,14 @@ caseL =
     ∷ ok (plain 25) (flagIs Flag.Available ∷ countsAre 0 0 0 0 ∷ [])
     ∷ []
 
+-- .. beside the archive
+abbrev pub caseLBeside : List Row
+caseLBeside =
+    ok (plain 1) []
+    ∷ ok (ask 4 1 0 5) (flagIs Flag.WritebackAndClaimed ∷ countsAre 0 1 0 0 ∷ [])
+    ∷ ok (plain 25) (flagIs Flag.Writeback ∷ countsAre 0 0 0 0 ∷ [])
+    ∷ []
+
 -- back to the claim, beside the archive and without it; then the claimant reads on, and stands last
 abbrev pub backBeside : List Row
 backBeside =
@@ -315,6 +323,7 @@ workedCases =
     ∷ caseK
     ∷ caseKBeside
     ∷ (caseB ++ caseL)
+    ∷ (caseB ++ caseLBeside)
     ∷ (caseB ++ caseM)
     ∷ (caseB ++ caseMBeside)
     ∷ (caseB ++ caseN)

@@ -87,7 +87,7 @@ pub record Start : Type 0 where
   pub editor : MaybeBucket
 
 -- what was put in last, as a page has it: storage's value, else the one that its exclusive holder keeps. For a page that is out with a
--- loader it is unknown, and nobody holds or keeps a value
+-- loader it is not known, and any value will do (`demand3-unknown`)
 abbrev pub putBefore : Page → ℕ
 putBefore p = cond (isStored (p .storage)) (valueOf (p .storage)) (excValue (p .«exc_state»))
 
@@ -100,6 +100,16 @@ startOf p = record {
   out = not (isStored (p .storage));
   loader = loadingBucket (p .«loading_state»);
   editor = excBucket (p .«exc_state»);
+}
+
+-- the same, but that this value was put in last
+abbrev pub startWith : ℕ → Page → Start
+startWith v p = record {
+  counts = startOf p .counts;
+  value = v;
+  out = startOf p .out;
+  loader = startOf p .loader;
+  editor = startOf p .editor;
 }
 
 -- ---- the words of RULES 9

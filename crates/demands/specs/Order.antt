@@ -19,6 +19,8 @@ use Rattle.lock.specs.declared.Outcome.{Outcome}
 use Rattle.lock.specs.Step.{decidedOn, refusedBy}
 use Rattle.lock.specs.Order.{Alike}
 use Rattle.replay.specs.Run.{ranOf, answersOf}
+use Rattle.pieces.specs.declared.Carry.{Carry}
+use Rattle.pieces.specs.Pieces.{takenOf, bufferAfter}
 use Rattle.demands.specs.History.{Event, after, history}
 
 -- ---- a list that closes the gap
@@ -60,6 +62,14 @@ pub record RunsAlike (p p′ : Page) (requests answers : List ℕ) : Type 0 wher
   pub answer : ranOf p requests answers .answer ≡ ranOf p′ requests answers .answer
   pub lines : answersOf p requests answers ≡ answersOf p′ requests answers
   pub left : Alike (ranOf p requests answers .page) (ranOf p′ requests answers .page)
+
+-- and so is a piece, with any carry
+pub record PiecesAlike (p p′ : Page) (c : Carry) (piece answers : List ℕ) : Type 0 where
+  pub answer : takenOf p c piece answers .answer ≡ takenOf p′ c piece answers .answer
+  pub carry : takenOf p c piece answers .carry ≡ takenOf p′ c piece answers .carry
+  pub count : takenOf p c piece answers .lines ≡ takenOf p′ c piece answers .lines
+  pub lines : bufferAfter p c piece answers ≡ bufferAfter p′ c piece answers
+  pub left : Alike (takenOf p c piece answers .page) (takenOf p′ c piece answers .page)
 
 -- ---- the lock, and the lock on a list that closes the gap: what is the same after any requests, from any page, sound or not
 pub record Unseen (p : Page) (qs : List Request) : Type 0 where

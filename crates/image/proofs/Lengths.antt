@@ -4,6 +4,7 @@ use Prim.Native.Nat.{ℕ, _≤_}
 use mathlib.Core.Bool.{Bool, true, false, cond, _&&_}
 use mathlib.Core.List.{List}
 use mathlib.Core.Path.{_≡_, sym, ap, _∙_}
+use mathlib.Core.Logic.{_⊎_, _≢_, inl, inr}
 use native.Mathlib.Omega.{arith}
 use borrow.Author.Tests.{ne-eqb}
 use lib.Dec.{T, eqb}
@@ -45,6 +46,14 @@ known-whole = tt
 pub known-short : T (knownSize shortSize)
 unfolding knownSize
 known-short = tt
+
+pub known-one : (size : ℕ) → (size ≡ wholeSize) ⊎ (size ≡ shortSize) → T (knownSize size)
+known-one size (inl e) = rw e known-whole
+known-one size (inr e) = rw e known-short
+
+pub known-none : (size : ℕ) → size ≢ wholeSize → size ≢ shortSize → knownSize size ≡ false
+unfolding knownSize
+known-none size a b = rw (ne-eqb size shortSize b, ne-eqb size wholeSize a)
 
 -- ---- what is asked of a page
 pub sound-other : (size : ℕ) (p : Page) → (size ≡ shortSize → ⊥) → soundUnder (limitsBy size) p ≡ soundOf p
