@@ -21,6 +21,27 @@ use Rattle.demands.specs.History.{Event, Start, putBefore, lastCounted, 
 use Rattle.demands.specs.History.{lastTaken, lastWithdrew, editorNamed, arrivals}
 use Rattle.demands.specs.Before.{plainly, named, loaderCame, editorCame, before, bareStart, AsIf}
 
+-- ---- what reads as an arrival
+no-arrivals : (e : ExcState) (b : ℕ) → arrivals b (editorCame e) ≡ 0
+no-arrivals ExcState.None b = refl
+no-arrivals (ExcState.Claim MaybeBucket.None w) b = refl
+no-arrivals (ExcState.Claim (MaybeBucket.At x) w) b = refl
+no-arrivals (ExcState.PendingAwaitWriteback MaybeBucket.None w) b = refl
+no-arrivals (ExcState.PendingAwaitWriteback (MaybeBucket.At x) w) b = refl
+no-arrivals (ExcState.Pending MaybeBucket.None n c w) b = refl
+no-arrivals (ExcState.Pending (MaybeBucket.At x) n c w) b = refl
+no-arrivals (ExcState.Obtained MaybeBucket.None c w) b = refl
+no-arrivals (ExcState.Obtained (MaybeBucket.At x) c w) b = refl
+
+loader-arrived : (l : LoadingState) (past : List Event) (b : ℕ) → arrivals b past ≡ 0
+    → arrivals b (loaderCame l ++ past) ≡ refAt (loadingBucket l) b
+loader-arrived LoadingState.None past b none = none
+loader-arrived LoadingState.Pending past b none = omega arith
+loader-arrived (LoadingState.PendingCounted MaybeBucket.None) past b none = omega arith
+loader-arrived (LoadingState.PendingCounted (MaybeBucket.At x)) past b none = omega arith
+loader-arrived (LoadingState.Obtained MaybeBucket.None) past b none = omega arith
+loader-arrived (LoadingState.Obtained (MaybeBucket.At x)) past b none = omega arith
+
 -- ---- what the words say of some requests
 record Said (s : Start) (past : List Event) (last : MaybeBucket) (since : Bool) (editor : MaybeBucket) (value took : ℕ) (out : Bool)
     : Type 0 where
@@ -87,27 +108,6 @@ module _ (counts : ℕ → ℕ) (v : ℕ) where
   loader-said LoadingState.Pending past editor took out t = fetched-said MaybeBucket.None past editor took out t
   loader-said (LoadingState.PendingCounted m) past editor took out t = fetched-said m past editor took out t
   loader-said (LoadingState.Obtained m) past editor took out t = fetched-said m past editor took out t
-
--- ---- what reads as an arrival
-no-arrivals : (e : ExcState) (b : ℕ) → arrivals b (editorCame e) ≡ 0
-no-arrivals ExcState.None b = refl
-no-arrivals (ExcState.Claim MaybeBucket.None w) b = refl
-no-arrivals (ExcState.Claim (MaybeBucket.At x) w) b = refl
-no-arrivals (ExcState.PendingAwaitWriteback MaybeBucket.None w) b = refl
-no-arrivals (ExcState.PendingAwaitWriteback (MaybeBucket.At x) w) b = refl
-no-arrivals (ExcState.Pending MaybeBucket.None n c w) b = refl
-no-arrivals (ExcState.Pending (MaybeBucket.At x) n c w) b = refl
-no-arrivals (ExcState.Obtained MaybeBucket.None c w) b = refl
-no-arrivals (ExcState.Obtained (MaybeBucket.At x) c w) b = refl
-
-loader-arrived : (l : LoadingState) (past : List Event) (b : ℕ) → arrivals b past ≡ 0
-    → arrivals b (loaderCame l ++ past) ≡ refAt (loadingBucket l) b
-loader-arrived LoadingState.None past b none = none
-loader-arrived LoadingState.Pending past b none = omega arith
-loader-arrived (LoadingState.PendingCounted MaybeBucket.None) past b none = omega arith
-loader-arrived (LoadingState.PendingCounted (MaybeBucket.At x)) past b none = omega arith
-loader-arrived (LoadingState.Obtained MaybeBucket.None) past b none = omega arith
-loader-arrived (LoadingState.Obtained (MaybeBucket.At x)) past b none = omega arith
 
 -- ---- since the start
 module _ (p : Page) (sound : T (soundOf p)) where

@@ -1,4 +1,4 @@
-// The program: request records from standard input, answers to standard output. What is written is decided in `replay`; here
+// The program: requests from standard input, answers to standard output. What is written is decided in `replay`; here
 // is only input and output.
 ghost use Prim.Native.Nat.{_*_, _≤_};
 ghost use Rattle.replay.specs.Reply.{longest};

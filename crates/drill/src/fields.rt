@@ -1,6 +1,6 @@
 // Parts of a payload, which may be shorter than what is looked for: what is missing is zero.
 
-// Where the value of a record begins.
+// Where the value of a line begins.
 pub const VALUE: usize = 8;
 
 // The byte at a place.

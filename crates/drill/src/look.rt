@@ -1,4 +1,4 @@
-// Operation 6: how the page is judged, what stands in it, and its readers as an image lists them. A value stands in a record as
+// Operation 6: how the page is judged, what stands in it, and its readers as an image lists them. A value stands in a line as
 // one that was withdrawn does.
 use crate::fields::VALUE;
 use kinds::BUCKETS;

@@ -1,7 +1,7 @@
 -- What the length of bytes stands for: which limits it gives, that these are among today's, and what is asked under them of a page and of
 -- the bytes. Assumes nothing.
 use Prim.Native.Nat.{ℕ, _≤_}
-use mathlib.Core.Bool.{Bool, true, false, cond, _&&_}
+use mathlib.Core.Bool.{Bool, true, false, cond, _&&_, _||_}
 use mathlib.Core.List.{List}
 use mathlib.Core.Path.{_≡_, sym, ap, _∙_}
 use mathlib.Core.Logic.{_⊎_, _≢_, inl, inr}
@@ -53,7 +53,7 @@ known-one size (inr e) = rw e known-short
 
 pub known-none : (size : ℕ) → size ≢ wholeSize → size ≢ shortSize → knownSize size ≡ false
 unfolding knownSize
-known-none size a b = rw (ne-eqb size shortSize b, ne-eqb size wholeSize a)
+known-none size a b = ap (λ (t : Bool). t || eqb size wholeSize) (ne-eqb size shortSize b) ∙ ne-eqb size wholeSize a
 
 -- ---- what is asked of a page
 pub sound-other : (size : ℕ) (p : Page) → (size ≡ shortSize → ⊥) → soundUnder (limitsBy size) p ≡ soundOf p

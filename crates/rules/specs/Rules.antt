@@ -106,7 +106,7 @@ sharedStateValid h r =
 abbrev pub sharedStorageInvariant : Head → List Reader → Bool
 sharedStorageInvariant h readers = every (sharedStateValid h) readers
 
--- ---- rule 8: the limits, which only the counts and the list's length meet
+-- ---- rule 8: the limits. `Limits` is asked for by the counts and the list's length alone
 -- each count at most the highest
 abbrev pub countsUnder : ℕ → List Count → Bool
 countsUnder highest cs = every (λ (c : Count). leb (c .0) highest) cs
