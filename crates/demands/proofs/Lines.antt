@@ -19,7 +19,7 @@ use Rattle.wire.specs.Requests.{fieldsOf, readable, readOf}
 use Rattle.wire.proofs.Premises.{read-passed}
 use Rattle.replay.specs.Turns.{turnOf}
 use Rattle.replay.specs.Run.{requestsOf, pageAfter, linesOf, runVerdict, ends, ranOf, answersOf}
-use Rattle.replay.proofs.Pages.{turn-read, turn-refused}
+use Rattle.replay.proofs.Pages.{turn-read, turn-refused, turn-keeps, run-keeps}
 use Rattle.replay.proofs.Lines.{answers-are}
 use Rattle.demands.specs.History.{Event, Start, startOf, HandOuts, lineEvent, runHistory, Given, afterRuns, added}
 use Rattle.demands.specs.History.{runsHistory, answerLines}
@@ -27,7 +27,6 @@ use Rattle.demands.specs.Demand3.{Demand3}
 use Rattle.demands.proofs.Told.{ToldOf, refused-tells, step-tells, start-told}
 use Rattle.demands.proofs.HandOuts.{added-hands}
 use Rattle.demands.proofs.Demand3.{demanded}
-use Rattle.demands.proofs.Kept.{turn-keeps, run-keeps}
 
 -- ---- one line
 -- the request that is read has the fields of its bytes

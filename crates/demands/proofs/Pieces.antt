@@ -26,7 +26,7 @@ use Rattle.replay.specs.Turns.{turnOf}
 use Rattle.replay.specs.Run.{requestsOf, pageAfter, linesOf, lineAt, pageAt, runVerdict, ends, fills, ranOf, answersOf}
 use Rattle.replay.specs.Applies.{applyingLine}
 use Rattle.replay.proofs.Judged.{passed}
-use Rattle.replay.proofs.Pages.{request-at, page-append, page-next, page-all}
+use Rattle.replay.proofs.Pages.{refused-turn, run-keeps, request-at, page-append, page-next, page-all}
 use Rattle.replay.proofs.Lines.{lines-append}
 use Rattle.pieces.specs.declared.{Carry.Carry, Taken.Taken}
 use Rattle.pieces.specs.Carries.{carrySize, held, carryOf, isValid, finishOf}
@@ -44,8 +44,7 @@ use Rattle.demands.specs.Pieces.{Demand1Piece, Demand1Finish, Demand2Pie
 use Rattle.demands.specs.Pieces.{Cutting, SameCut, begun, WholeRequests, Unchanged, Within, byByte}
 use Rattle.demands.proofs.Told.{ToldOf, start-told}
 use Rattle.demands.proofs.HandOuts.{added-hands}
-use Rattle.demands.proofs.Kept.{run-keeps}
-use Rattle.demands.proofs.Demand1.{accepts-none, refused-turn, line-first, demand1-run}
+use Rattle.demands.proofs.Demand1.{accepts-none, line-first, demand1-run}
 use Rattle.demands.proofs.Demand2.{demand2-run}
 use Rattle.demands.proofs.Demand3.{demanded}
 use Rattle.demands.proofs.Lines.{history-append, ended-sound, ended-told}
