@@ -1,7 +1,7 @@
--- Demand 3, proved from any sound page (`demand3-from`): the history tells of counts, storage and the values kept and handed out
--- (proofs/Told.antt); soundness carries storage's value to every holder, and shuts readers and the archive out while the page is
--- out. A fresh page is one to start from (`demand3`), and what it starts with is plain (`fresh-start`, `counted-fresh`). Assumes
--- nothing.
+-- Demand 3, proved from any sound page, after whatever is asked (`demand3-asked`), requests (`demand3-from`) or lines: the history tells
+-- of counts, storage and the values kept and handed out (proofs/Told.antt, Asked.antt); soundness carries storage's value to every
+-- holder, and shuts readers and the archive out while the page is out. A fresh page is one to start from (`demand3`), and what it
+-- starts with is plain (`fresh-start`, `counted-fresh`). Assumes nothing.
 use Prim.Native.Nat.{ℕ, zero, suc, _+_, _<_}
 use mathlib.Core.Path.{_≡_, refl, ap, _∙_}
 use mathlib.Core.Bool.{Bool, true, false, not, cond, _&&_, _||_}
@@ -25,12 +25,11 @@ use Rattle.soundness.proofs.Known.{known, hold-iff, valid-phase, readerPending,
 use Rattle.soundness.proofs.FreshPage.{fresh-sound}
 use Rattle.soundness.proofs.Tested.{facts}
 use Rattle.requests.specs.declared.Request.{Request}
-use Rattle.demands.specs.History.{Event, Start, startOf, after, history, arrivals, departures, lastPut}
-use Rattle.demands.specs.History.{lastWithdrew, HandOuts}
+use Rattle.demands.specs.History.{Event, Asking, left, happened, byRequest, after, history, Start, startOf, arrivals, departures}
+use Rattle.demands.specs.History.{lastPut, lastWithdrew, HandOuts}
 use Rattle.demands.specs.Demand3.{Listed, Demand3}
-use Rattle.demands.proofs.Told.{ToldOf, put-in, tells, start-told}
-use Rattle.demands.proofs.HandOuts.{history-hands}
-use Rattle.demands.proofs.Kept.{sound-after}
+use Rattle.demands.proofs.Told.{ToldOf, put-in}
+use Rattle.demands.proofs.Asked.{Acts, request-acts, begins, follows}
 
 -- ---- what is used of tests
 or-left : (a b : Bool) → T a → T (a || b)
@@ -96,11 +95,16 @@ module _ (start : Start) (p : Page) (past : List Event) (s : Sound (headOf p) (l
     alone = λ t r at. first-is (r .phase) (shut r at t);
   }
 
--- ---- from any sound page, after any requests
+-- ---- from any sound page, after whatever is asked
+pub demand3-asked : (way : Asking) → Acts way → (p : Page) → T (soundOf p) → (asks : List (way .Ask))
+    → Demand3 (startOf p) (left way p asks) (happened way p asks [])
+demand3-asked way acts p sound asks =
+    let p′ = left way p asks in
+    let t = follows way acts (startOf p) p [] asks (begins p sound) in
+    demanded (startOf p) p′ (happened way p asks []) (facts p′ (t .sound) .parts) (t .told) (t .hands)
+
 pub demand3-from : (p : Page) → T (soundOf p) → (qs : List Request) → Demand3 (startOf p) (after p qs) (history p qs [])
-demand3-from p sound qs =
-    demanded (startOf p) (after p qs) (history p qs []) (facts (after p qs) (sound-after p qs sound) .parts)
-    (tells (startOf p) p [] qs sound (start-told p sound)) (history-hands p qs [] tt)
+demand3-from = demand3-asked byRequest request-acts
 
 -- ---- from a fresh page
 -- nothing has come, this value was put in, the page is in, and nobody loads or edits

@@ -33,7 +33,8 @@ use Rattle.replay.specs.Run.{runVerdict}
 use Rattle.pieces.specs.Carries.{isValid, finishOf}
 use Rattle.pieces.specs.Pieces.{pieceVerdict}
 use Rattle.demands.specs.Cases.{plain, put}
-use Rattle.demands.specs.Clean.{requests, CleanTaking, FirstBack}
+use Rattle.demands.specs.History.{byRequest}
+use Rattle.demands.specs.Clean.{CleanTaking, FirstBack}
 use Rattle.demands.specs.Exhibits.{exhibited, flags, shown, holders, everyStepTaken, breakEach, brokenPages}
 use Rattle.demands.specs.Exhibits.{answered, trials, mayAnswer, everyReturnShown, everyPutBackShown, wholeNumbers, refusesRightly}
 use Rattle.demands.specs.Exhibits.{pieceNumbers, endNumbers}
@@ -150,13 +151,13 @@ unfolding stepOf lookFor editedIn judged decideOf soughtOf soundOf lowestBroken 
 put-backs-exhibited = tt
 
 -- what is asked of a clean taking and of the first that puts the page in can be met, from 8 on and from an image on
-pub clean-exhibited : CleanTaking requests looked (plain 8) × FirstBack requests (stepOf looked (plain 8) .page) meanwhile (put 10 5)
+pub clean-exhibited : CleanTaking byRequest looked (plain 8) × FirstBack byRequest (stepOf looked (plain 8) .page) meanwhile (put 10 5)
 unfolding stepOf lookFor editedIn judged decideOf soughtOf soundOf lowestBroken noReaders pushed putAt removedAt freshPage
 clean-exhibited = (record { takes = tt; clean = tt }, record { none-before = (tt, (tt, (tt, (tt, (tt, tt))))); back = tt })
 
 pub clean-read-exhibited : T (isEditing (restoredFrom (editingClean .bytes) .page .«exc_state»))
     × T (excClean (restoredFrom (editingClean .bytes) .page .«exc_state»))
-    × FirstBack requests (restoredFrom (editingClean .bytes) .page) (put 9 6 ∷ []) (put 9 value)
+    × FirstBack byRequest (restoredFrom (editingClean .bytes) .page) (put 9 6 ∷ []) (put 9 value)
 unfolding stepOf lookFor editedIn judged decideOf soughtOf soundOf lowestBroken noReaders pushed putAt removedAt freshPage
     imageOf kindBytes countBytes valueBytes entries lineWith pageFrom headFrom excFromBytes u64At readerFrom readersFrom knownSize limitsBy isImage
     readVerdict
