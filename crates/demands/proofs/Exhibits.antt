@@ -35,7 +35,8 @@ use Rattle.replay.specs.Run.{runVerdict}
 use Rattle.pieces.specs.Carries.{isValid, finishOf}
 use Rattle.pieces.specs.Pieces.{pieceVerdict}
 use Rattle.demands.specs.Cases.{plain, put}
-use Rattle.demands.specs.Clean.{requests, lines, CleanTaking, FirstBack}
+use Rattle.demands.specs.History.{byRequest, byLine}
+use Rattle.demands.specs.Clean.{CleanTaking, FirstBack}
 use Rattle.demands.specs.Exhibits.{exhibited, flags, shown, holders, everyStepTaken, breakEach, brokenPages, breaksAlone, overLimits}
 use Rattle.demands.specs.Exhibits.{answered, trials, mayAnswer, everyReturnShown, everyPutBackShown, wholeNumbers, refusesRightly}
 use Rattle.demands.specs.Exhibits.{pieceNumbers, endNumbers}
@@ -157,13 +158,13 @@ unfolding stepOf lookFor editedIn judged decideOf soughtOf soundOf lowestBroken 
 put-backs-exhibited = tt
 
 -- what is asked of a clean taking and of the first that puts the page in can be met, from 8 on,
-pub clean-exhibited : CleanTaking requests looked (plain 8) × FirstBack requests (stepOf looked (plain 8) .page) meanwhile (put 10 5)
+pub clean-exhibited : CleanTaking byRequest looked (plain 8) × FirstBack byRequest (stepOf looked (plain 8) .page) meanwhile (put 10 5)
 unfolding stepOf lookFor editedIn judged decideOf soughtOf soundOf lowestBroken noReaders pushed putAt removedAt freshPage
 clean-exhibited = (record { takes = tt; clean = tt }, record { none-before = (tt, (tt, (tt, (tt, (tt, tt))))); back = tt })
 
 -- .. by lines of runs, too
-pub clean-lines-exhibited : CleanTaking lines looked (bytesOf (plain 8))
-    × FirstBack lines (turnOf looked (bytesOf (plain 8)) .page) (map bytesOf meanwhile) (bytesOf (put 10 5))
+pub clean-lines-exhibited : CleanTaking byLine looked (bytesOf (plain 8))
+    × FirstBack byLine (turnOf looked (bytesOf (plain 8)) .page) (map bytesOf meanwhile) (bytesOf (put 10 5))
 unfolding stepOf lookFor editedIn judged decideOf soughtOf soundOf lowestBroken noReaders pushed putAt removedAt freshPage
     turnOf readOf bytesOf lineWith
 clean-lines-exhibited = (record { takes = tt; clean = tt }, record { none-before = (tt, (tt, (tt, (tt, (tt, tt))))); back = tt })
@@ -173,7 +174,7 @@ abbrev ReadClean : List ℕ → Type 0
 ReadClean l =
     T (isEditing (restoredFrom l .page .«exc_state»))
     × T (excClean (restoredFrom l .page .«exc_state»))
-    × FirstBack requests (restoredFrom l .page) (put 9 6 ∷ []) (put 9 value)
+    × FirstBack byRequest (restoredFrom l .page) (put 9 6 ∷ []) (put 9 value)
 
 pub clean-read-exhibited : ReadClean (editingClean .bytes) × ReadClean (lengthened (editingClean .bytes))
 unfolding stepOf lookFor editedIn judged decideOf soughtOf soundOf lowestBroken noReaders pushed putAt removedAt freshPage

@@ -1,6 +1,6 @@
 -- What the history tells of a page, step by step: counts, storage, the loader and its bucket, the exclusive holder's bucket, the value
--- that it keeps, and the values handed out. Each step keeps it (one entry for each number), a refusal changes neither page nor
--- history's sums, so it holds after any requests. Assumes nothing.
+-- that it keeps, and the values handed out. Each step keeps it (one entry for each number), and a refusal changes neither page nor
+-- history's sums. Assumes nothing.
 use Prim.Native.Nat.{ℕ, _+_, _≤_, _<_}
 use mathlib.Core.Path.{_≡_, refl, sym, _∙_}
 use mathlib.Core.Bool.{Bool, true, false, not, cond, _&&_}
@@ -43,8 +43,7 @@ use Rattle.lock.specs.Words.{raising, leaving, givingBack, puttingIn, handingOu
 use Rattle.lock.specs.Step.{lookFor, stepped, stepOf}
 use Rattle.lock.proofs.Keeps.Counts.{number-raise, number-lower}
 use Rattle.lock.proofs.Exact.Granted.{granted, exc-within}
-use Rattle.lock.proofs.Keeps.{step-keeps}
-use Rattle.demands.specs.History.{Event, Start, startOf, startWith, event, after, history, arrivals, departures, lastPut}
+use Rattle.demands.specs.History.{Event, Start, startOf, startWith, event, arrivals, departures, lastPut}
 use Rattle.demands.specs.History.{lastTaken, lastWithdrew, lastCounted, countedSince, editorNamed, HandedOut}
 
 -- ---- what is told
@@ -437,14 +436,7 @@ module _ (start : Start) (p : Page) (q : Request) (past : List Event) where
       go Verdict.Passed e = decided-tells (facts p sound .parts) e told
       go (Verdict.Failed why) e = refused-tells start (headOf p) past q why told
 
--- ---- any requests
-pub tells : (start : Start) (p : Page) (past : List Event) (qs : List Request) → T (soundOf p) → ToldOf start (headOf p) past
-    → ToldOf start (headOf (after p qs)) (history p qs past)
-tells start p past [] sound told = told
-tells start p past (q ∷ qs) sound told =
-    tells start (stepOf p q .page) (event p q ∷ past) qs (step-keeps p q sound) (step-tells start p q past sound told)
-
--- at the start nothing has happened
+-- ---- at the start nothing has happened
 pub start-told : (p : Page) → T (soundOf p) → ToldOf (startOf p) (headOf p) []
 start-told p sound = record {
   balance = λ b. refl;

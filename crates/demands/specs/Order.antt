@@ -21,7 +21,7 @@ use Rattle.lock.specs.Order.{Alike}
 use Rattle.replay.specs.Run.{ranOf, answersOf}
 use Rattle.pieces.specs.declared.Carry.{Carry}
 use Rattle.pieces.specs.Pieces.{takenOf, bufferAfter}
-use Rattle.demands.specs.History.{Event, after, history}
+use Rattle.demands.specs.History.{Event, Asking, left, happened, after, history}
 
 -- ---- a list that closes the gap
 -- the list without its entry at a place: the later ones move up
@@ -47,14 +47,18 @@ abbrev pub stepClosing : Page → Request → Outcome
 stepClosing p q = cond (soundOf p) (steppedClosing p q (judged q)) (refusedBy p Refusal.Unsound)
 
 -- requests one after the other: the page that they leave, and the history
+abbrev pub byClosing : Asking
+byClosing = record {
+  Ask = Request;
+  page = λ p q. stepClosing p q .page;
+  event = λ p q. record { request = q; answer = stepClosing p q .answer };
+}
+
 abbrev pub afterClosing : Page → List Request → Page
-afterClosing p [] = p
-afterClosing p (q ∷ qs) = afterClosing (stepClosing p q .page) qs
+afterClosing = left byClosing
 
 abbrev pub historyClosing : Page → List Request → List Event → List Event
-historyClosing p [] past = past
-historyClosing p (q ∷ qs) past =
-    historyClosing (stepClosing p q .page) qs (record { request = q; answer = stepClosing p q .answer } ∷ past)
+historyClosing = happened byClosing
 
 -- ---- two pages that differ in the order alone
 -- a run of any bytes is answered alike, byte by byte, and leaves again such two

@@ -1,16 +1,21 @@
 -- The requests of a run, and the pages that they leave: each is answered from the page that those before it left, by a step
--- where its bytes are a request. In order: one request, the requests, the pages. Assumes nothing.
+-- where its bytes are a request; a refused one leaves it, and a sound page stays sound. In order: one request, the requests, the
+-- pages. Assumes nothing.
 use Prim.Native.Nat.{ℕ, zero, suc, _+_, _*_, _/_, _<_, _≤_}
-use mathlib.Core.Path.{_≡_, refl, ap, _∙_}
+use mathlib.Core.Path.{_≡_, refl, sym, ap, _∙_}
 use mathlib.Core.List.{List, [], _∷_, _++_}
 use native.Mathlib.Omega.{arith}
 use native.Mathlib.Nat.{mul-zero, mul-suc}
+use lib.Dec.{T}
 use lib.ListN.{length, take, drop, getD}
 use lib.Seq.{take-all, take-suc, drop-drop}
 use Rattle.kinds.specs.Limits.{lineSize}
 use Rattle.page_record.specs.declared.Page.{Page}
-use Rattle.requests.specs.declared.{Refusal.Refusal, Request.Request}
+use Rattle.soundness.specs.Soundness.{soundOf}
+use Rattle.requests.specs.declared.{Refusal.Refusal, Answer.Answer, Request.Request}
+use Rattle.lock.specs.declared.Outcome.{Outcome}
 use Rattle.lock.specs.Step.{refusedBy, stepOf}
+use Rattle.lock.proofs.Keeps.{step-keeps, refused-keeps-all}
 use Rattle.wire.specs.declared.Reading.{Reading}
 use Rattle.wire.specs.Requests.{readOf}
 use Rattle.replay.specs.Turns.{onReading, turnOf}
@@ -26,6 +31,24 @@ module _ (page : Page) (bytes : List ℕ) where
   pub turn-refused : (why : Refusal) → readOf bytes ≡ Reading.Refused why → turnOf page bytes ≡ refusedBy page why
   unfolding turnOf
   turn-refused why e = ap (onReading page) e
+
+  -- one that is refused leaves the page, whether the reader or the step refused it
+  pub refused-turn : (why : Refusal) → turnOf page bytes .answer ≡ Answer.Refused why → turnOf page bytes .page ≡ page
+  refused-turn why refused = go (readOf bytes) refl
+    where
+      go : (r : Reading) → readOf bytes ≡ r → turnOf page bytes .page ≡ page
+      go (Reading.Request q) e =
+          let t = turn-read q e in
+          ap (λ (o : Outcome). o .page) t ∙ refused-keeps-all page q why (sym (ap (λ (o : Outcome). o .answer) t) ∙ refused)
+      go (Reading.Refused other) e = ap (λ (o : Outcome). o .page) (turn-refused other e)
+
+  -- a sound page stays sound
+  pub turn-keeps : T (soundOf page) → T (soundOf (turnOf page bytes .page))
+  turn-keeps sound = go (readOf bytes) refl
+    where
+      go : (r : Reading) → readOf bytes ≡ r → T (soundOf (turnOf page bytes .page))
+      go (Reading.Request q) e = rw (turn-read q e) (step-keeps page q sound)
+      go (Reading.Refused why) e = rw (turn-refused why e) sound
 
 -- ---- the requests
 length-cut : (w n : ℕ) (l : List ℕ) → length (cut w n l) ≡ n
@@ -50,6 +73,11 @@ pub page-append : (page : Page) (before after : List (List ℕ))
     → pageAfter page (before ++ after) ≡ pageAfter (pageAfter page before) after
 page-append page [] after = refl
 page-append page (q ∷ before) after = page-append (turnOf page q .page) before after
+
+-- a sound page stays sound
+pub run-keeps : (page : Page) (qs : List (List ℕ)) → T (soundOf page) → T (soundOf (pageAfter page qs))
+run-keeps page [] sound = sound
+run-keeps page (q ∷ qs) sound = run-keeps (turnOf page q .page) qs (turn-keeps page q sound)
 
 -- the last request leaves the page
 pub page-last : (page : Page) (before : List (List ℕ)) (q : List ℕ)
