@@ -203,8 +203,8 @@ took p q t =
           kept = r .editor ∙ ap (λ (x : Step). x .head .«exc_state») st;
         }
 
--- ---- whatever is asked
--- an editor that was read as Obtained was read with the value at its place
+-- ---- an editor that was read
+-- one that was read as Obtained was read with the value at its place
 value-read : (n : ℕ) (m : MaybeBucket) (x : Visited) (c : Bool) (v : ℕ) → T (isEditing (excFrom n m x c v))
     → excValue (excFrom n m x c v) ≡ v
 unfolding excFrom
@@ -226,6 +226,7 @@ kept-read l = go (readVerdict (pageFrom l) l)
     go Verdict.Passed t = value-read _ _ _ _ (u64At 40 l) t
     go (Verdict.Failed why) t = absurd t
 
+-- ---- whatever is asked
 -- a clean editor that has the page out keeps its value
 is-keeping : (e : ExcState) → T (isEditing e) → T (excClean e) → Keeping true (excValue e) e
 is-keeping e editing clean =

@@ -2,7 +2,7 @@
 -- where its bytes are a request; a refused one leaves it, and a sound page stays sound. In order: one request, the requests, the
 -- pages. Assumes nothing.
 use Prim.Native.Nat.{ℕ, zero, suc, _+_, _*_, _/_, _<_, _≤_}
-use mathlib.Core.Path.{_≡_, refl, sym, ap, _∙_}
+use mathlib.Core.Path.{_≡_, refl, ap, _∙_}
 use mathlib.Core.List.{List, [], _∷_, _++_}
 use native.Mathlib.Omega.{arith}
 use native.Mathlib.Nat.{mul-zero, mul-suc}
@@ -13,7 +13,6 @@ use Rattle.kinds.specs.Limits.{lineSize}
 use Rattle.page_record.specs.declared.Page.{Page}
 use Rattle.soundness.specs.Soundness.{soundOf}
 use Rattle.requests.specs.declared.{Refusal.Refusal, Answer.Answer, Request.Request}
-use Rattle.lock.specs.declared.Outcome.{Outcome}
 use Rattle.lock.specs.Step.{refusedBy, stepOf}
 use Rattle.lock.proofs.Keeps.{step-keeps, refused-keeps-all}
 use Rattle.wire.specs.declared.Reading.{Reading}
@@ -34,21 +33,21 @@ module _ (page : Page) (bytes : List ℕ) where
 
   -- one that is refused leaves the page, whether the reader or the step refused it
   pub refused-turn : (why : Refusal) → turnOf page bytes .answer ≡ Answer.Refused why → turnOf page bytes .page ≡ page
-  refused-turn why refused = go (readOf bytes) refl
+  unfolding turnOf
+  refused-turn why = go (readOf bytes)
     where
-      go : (r : Reading) → readOf bytes ≡ r → turnOf page bytes .page ≡ page
-      go (Reading.Request q) e =
-          let t = turn-read q e in
-          ap (λ (o : Outcome). o .page) t ∙ refused-keeps-all page q why (sym (ap (λ (o : Outcome). o .answer) t) ∙ refused)
-      go (Reading.Refused other) e = ap (λ (o : Outcome). o .page) (turn-refused other e)
+      go : (r : Reading) → onReading page r .answer ≡ Answer.Refused why → onReading page r .page ≡ page
+      go (Reading.Request q) e = refused-keeps-all page q why e
+      go (Reading.Refused other) e = refl
 
   -- a sound page stays sound
   pub turn-keeps : T (soundOf page) → T (soundOf (turnOf page bytes .page))
-  turn-keeps sound = go (readOf bytes) refl
+  unfolding turnOf
+  turn-keeps sound = go (readOf bytes)
     where
-      go : (r : Reading) → readOf bytes ≡ r → T (soundOf (turnOf page bytes .page))
-      go (Reading.Request q) e = rw (turn-read q e) (step-keeps page q sound)
-      go (Reading.Refused why) e = rw (turn-refused why e) sound
+      go : (r : Reading) → T (soundOf (onReading page r .page))
+      go (Reading.Request q) = step-keeps page q sound
+      go (Reading.Refused why) = sound
 
 -- ---- the requests
 length-cut : (w n : ℕ) (l : List ℕ) → length (cut w n l) ≡ n
