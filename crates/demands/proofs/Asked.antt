@@ -19,8 +19,8 @@ use Rattle.wire.specs.declared.Reading.{Reading}
 use Rattle.wire.specs.Requests.{readOf}
 use Rattle.wire.proofs.Trips.{accepted}
 use Rattle.replay.proofs.Pages.{turn-read, turn-refused}
-use Rattle.demands.specs.History.{Event, event, Asking, left, happened, byRequest, byLine, Start, startOf, HandOuts}
-use Rattle.demands.proofs.Told.{ToldOf, refused-tells, step-tells, start-told}
+use Rattle.demands.specs.History.{Event, event, Asking, left, happened, byRequest, byLine, Start, HandOuts}
+use Rattle.demands.proofs.Told.{ToldOf, refused-tells, step-tells}
 
 -- ---- what is asked
 -- it is refused and leaves the page, or it is a request that is stepped
@@ -53,10 +53,6 @@ pub record Follows (start : Start) (p : Page) (past : List Event) : Type 0 where
   pub sound : T (soundOf p)
   pub told : ToldOf start (headOf p) past
   pub hands : HandOuts past
-
--- at the start nothing has happened
-pub begins : (p : Page) → T (soundOf p) → Follows (startOf p) p []
-begins p sound = record { sound = sound; told = start-told p sound; hands = tt }
 
 acted-follows : (start : Start) (p p′ : Page) (e : Event) (past : List Event) → Acted p p′ e → Follows start p past
     → Follows start p′ (e ∷ past)
