@@ -1,10 +1,11 @@
 -- A test that passes, as a type (`T` of lib.Dec) and as an equation: from one to the other (`is-true` .. `to-false`), a test of
--- two parts (`both`, `halves`, `and-iff`, `parts-true`), two tests that agree (`alike`), a test `if !f(..)` from what f
--- ensures of its result (`fails-by`, `holds-by`), and a test as a byte (`byte-is`). Assumes nothing.
+-- two parts (`both`, `halves`, `and-iff`, `parts-true`), one that is denied (`not-both`, `not-either`), two tests that agree
+-- (`alike`), a test `if !f(..)` from what f ensures of its result (`fails-by`, `holds-by`), and a test as a byte (`byte-is`).
+-- Assumes nothing.
 use Prim.Native.Nat.{ℕ}
 use mathlib.Core.Path.{_≡_, refl, sym, subst, _∙_}
 use mathlib.Core.Logic.{_↔_}
-use mathlib.Core.Bool.{Bool, true, false, not, cond, _&&_, Bool·beq, false≢true}
+use mathlib.Core.Bool.{Bool, true, false, not, cond, _&&_, _||_, Bool·beq, false≢true}
 use mir.Val.{boolByte}
 use borrow.Author.Tests.{not-true, not-false}
 use lib.Dec.{T}
@@ -40,6 +41,15 @@ and-iff a b = (halves a b, λ h. both a b (h .0) (h .1))
 pub parts-true : (a b : Bool) → (a && b) ≡ true → (a ≡ true) × (b ≡ true)
 parts-true true b e = (refl, e)
 parts-true false b e = absurd (false≢true e)
+
+-- denied
+pub not-both : (a b : Bool) → not (a && b) ≡ (not a || not b)
+not-both true b = refl
+not-both false b = refl
+
+pub not-either : (a b : Bool) → not (a || b) ≡ (not a && not b)
+not-either true b = refl
+not-either false b = refl
 
 -- ---- two tests that agree
 pub alike : (a b : Bool) → T (Bool·beq a b) → a ≡ b
