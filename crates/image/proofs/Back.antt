@@ -1,13 +1,14 @@
 -- What is written of each part of a page is read back: a flag, storage, a holder, the counts, a reader. A bucket is read back where it is
 -- below the number of none. Assumes nothing.
 use Prim.Native.Nat.{ℕ, _+_, _*_, _/_, _%_, _<_}
-use mathlib.Core.Bool.{Bool, true, false, cond}
+use mathlib.Core.Bool.{Bool, cond}
 use mathlib.Core.List.{List, [], _∷_}
 use mathlib.Core.Path.{_≡_, refl, ap, _∙_}
 use native.Mathlib.Omega.{arith}
 use borrow.Author.Tests.{ne-eqb}
 use lib.Dec.{T, eqb, ltb, ltb→lt}
 use lib.ListN.{length}
+use Rattle.laws.proofs.Tests.{byte-back}
 use Rattle.kinds.specs.declared.{Count.Count, Flag.Flag, MaybeBucket.MaybeBucket, Storage.Storage, Phase.Phase}
 use Rattle.kinds.specs.declared.{ExcState.ExcState, LoadingState.LoadingState, WritebackState.WritebackState}
 use Rattle.kinds.specs.Limits.{buckets}
@@ -56,10 +57,6 @@ bucket-back (MaybeBucket.At b) t =
     let other : b .0 ≡ noBucket → ⊥ = λ e. omega arith in
     rw (ne-eqb (b .0) noBucket other)
 
-clean-back : (c : Bool) → eqb (cond c 1 0) 1 ≡ c
-clean-back true = refl
-clean-back false = refl
-
 pub exc-back : (e : ExcState) → T (validBucket (excBucket e))
     → excFrom (excNumber e) (bucketFrom (excBucketNumber e)) (excVisited e) (eqb (cond (excClean e) 1 0) 1) (excValue e) ≡ e
 unfolding excFrom
@@ -68,10 +65,10 @@ exc-back (ExcState.Claim m v) t = ap (λ (x : MaybeBucket). ExcState.Claim x v) 
 exc-back (ExcState.PendingAwaitWriteback m v) t = ap (λ (x : MaybeBucket). ExcState.PendingAwaitWriteback x v) (bucket-back m t)
 exc-back (ExcState.Pending m n c v) t =
     ap (λ (x : MaybeBucket). ExcState.Pending x n (eqb (cond c 1 0) 1) v) (bucket-back m t)
-    ∙ ap (λ (x : Bool). ExcState.Pending m n x v) (clean-back c)
+    ∙ ap (λ (x : Bool). ExcState.Pending m n x v) (byte-back c)
 exc-back (ExcState.Obtained m c v) t =
     ap (λ (x : MaybeBucket). ExcState.Obtained x (eqb (cond c 1 0) 1) v) (bucket-back m t)
-    ∙ ap (λ (x : Bool). ExcState.Obtained m x v) (clean-back c)
+    ∙ ap (λ (x : Bool). ExcState.Obtained m x v) (byte-back c)
 
 pub loading-back : (l : LoadingState) → T (validBucket (loadingBucket l))
     → loadingFrom (loadingNumber l) (bucketFrom (loadingBucketNumber l)) ≡ l
