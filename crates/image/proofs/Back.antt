@@ -3,11 +3,12 @@
 use Prim.Native.Nat.{ℕ, _+_, _*_, _/_, _%_, _<_}
 use mathlib.Core.Bool.{Bool, cond}
 use mathlib.Core.List.{List, [], _∷_}
-use mathlib.Core.Path.{_≡_, refl, ap, _∙_}
+use mathlib.Core.Path.{_≡_, refl, sym, ap, _∙_}
 use native.Mathlib.Omega.{arith}
 use borrow.Author.Tests.{ne-eqb}
 use lib.Dec.{T, eqb, ltb, ltb→lt}
 use lib.ListN.{length}
+use Rattle.laws.proofs.Lists.{four-are}
 use Rattle.laws.proofs.Tests.{byte-back}
 use Rattle.kinds.specs.declared.{Count.Count, Flag.Flag, MaybeBucket.MaybeBucket, Storage.Storage, Phase.Phase}
 use Rattle.kinds.specs.declared.{ExcState.ExcState, LoadingState.LoadingState, WritebackState.WritebackState}
@@ -83,12 +84,7 @@ pub counts-back : (cs : List Count) → length cs ≡ buckets
     → _≡_ {A = List Count}
     (record { 0 = numberAt cs 0 } ∷ record { 0 = numberAt cs 1 } ∷ record { 0 = numberAt cs 2 } ∷ record { 0 = numberAt cs 3 } ∷ [])
     cs
-counts-back [] e = absurd (omega arith)
-counts-back (a ∷ []) e = absurd (omega arith)
-counts-back (a ∷ b ∷ []) e = absurd (omega arith)
-counts-back (a ∷ b ∷ c ∷ []) e = absurd (omega arith)
-counts-back (a ∷ b ∷ c ∷ d ∷ []) e = refl
-counts-back (a ∷ b ∷ c ∷ d ∷ x ∷ cs) e = absurd (omega arith)
+counts-back cs e = sym (four-are cs (record { 0 = 0 }) e)
 
 pub length-back : (n : ℕ) → n < 256 * 256 → n % 256 + 256 * ((n / 256) % 256) ≡ n
 length-back n h = omega arith
