@@ -1,7 +1,7 @@
 -- The test `soundOf` and the named facts `Sound` say the same: `facts` from the test, `tested` back, and `tested-parts` for a
 -- head and a list. Rule 8's holder buckets, visited number and readers' buckets follow from rules 2, 4 and 7, so the facts
 -- do not list them. Assumes nothing.
-use Prim.Native.Nat.{ℕ, zero, suc, _-_, _≤_, _<_}
+use Prim.Native.Nat.{ℕ, suc, _-_, _≤_, _<_}
 use mathlib.Core.Path.{_≡_, sym, subst}
 use mathlib.Core.Bool.{Bool, true}
 use mathlib.Core.List.{List, [], _∷_}
@@ -11,7 +11,8 @@ use lib.Dec.{T, eqb, leb, ltb, eqb→eq, leb→le, le→leb, lt→ltb}
 use lib.ListN.{length, getD}
 use Rattle.laws.specs.Lists.{every}
 use Rattle.laws.proofs.Tests.{is-true, both, halves, and-iff}
-use Rattle.laws.proofs.Lists.{every-mono, every-at, every-default}
+use Rattle.laws.proofs.Lists.{every-mono, every-default}
+use Rattle.laws.proofs.Pick.{pick}
 use Rattle.kinds.specs.declared.{Count.Count, Reader.Reader}
 use Rattle.kinds.specs.Limits.{buckets, capacity, ceiling}
 use Rattle.readers.specs.declared.Readers.{Readers}
@@ -32,11 +33,7 @@ eq→eqb m n e = is-true (eq-eqb m n e)
 
 -- ---- every bucket, and every count
 at-bucket : (f : ℕ → Bool) → T (every f everyBucket) → (b : ℕ) → b < buckets → T (f b)
-at-bucket f t zero k = every-at f everyBucket 0 0 t k
-at-bucket f t (suc zero) k = every-at f everyBucket 1 0 t k
-at-bucket f t (suc (suc zero)) k = every-at f everyBucket 2 0 t k
-at-bucket f t (suc (suc (suc zero))) k = every-at f everyBucket 3 0 t k
-at-bucket f t (suc (suc (suc (suc b)))) k = absurd (omega arith)
+at-bucket f t = pick buckets (λ b. T (f b)) (simp and-iff at t)
 
 every-bucket : (f : ℕ → Bool) → ((b : ℕ) → b < buckets → T (f b)) → T (every f everyBucket)
 every-bucket f k = simp and-iff (k 0 (omega arith), (k 1 (omega arith), (k 2 (omega arith), (k 3 (omega arith), tt))))
