@@ -12,14 +12,12 @@ use lib.Dec.{eqb}
 use lib.ListN.{length, take, drop, set, replicate}
 use lib.Seq.{getD-drop, take-suc-set, append-snoc}
 use Rattle.laws.proofs.Tests.{parts-true}
+use Rattle.laws.proofs.Lists.{each-take}
 use Rattle.wire.specs.Bytes.{Bytes, number, lowBytes, blank}
 
 -- ---- bytes
 pub bytes-take : (n : ℕ) (l : List ℕ) → Bytes l → Bytes (take n l)
-bytes-take zero l b i = omega arith
-bytes-take (suc n) [] b i = omega arith
-bytes-take (suc n) (x ∷ l) b zero = b 0
-bytes-take (suc n) (x ∷ l) b (suc i) = bytes-take n l (λ j. b (suc j)) i
+bytes-take n l b = each-take (λ b. b < 256) 0 (omega arith) n l b
 
 pub bytes-drop : (n : ℕ) (l : List ℕ) → Bytes l → Bytes (drop n l)
 bytes-drop n l b i = rw getD-drop (b (n + i))
