@@ -34,7 +34,7 @@ use Rattle.requests.specs.Premises.{Passes, verdict}
 use Rattle.requests.specs.Requests.{formal, judged, pastLast}
 use Rattle.requests.proofs.Verdicts.{passed}
 use Rattle.requests.proofs.Reasons.{refusal-positive}
-use Rattle.requests.proofs.Formed.{judged-bucket, step-below}
+use Rattle.requests.proofs.Formed.{formed, step-below}
 use Rattle.heads.specs.Setters.{raise, lower, lowerIf}
 use Rattle.heads.specs.Decisions.{Step, settled, isFound, reader}
 use Rattle.steps.specs.Decide.{stepAt, soughtOf, decideOf}
@@ -411,15 +411,15 @@ module _ (start : Start) (p : Page) (q : Request) (past : List Event) where
   decided-tells : Sound (headOf p) (live (p .readers)) → judged q ≡ Verdict.Passed → ToldOf start (headOf p) past
       → ToldOf start (headOf (stepped p q Verdict.Passed .page)) (record { request = q; answer = stepped p q Verdict.Passed .answer } ∷ past)
   unfolding decideOf judged
-  decided-tells sound formed told = go (verdict (st .premises)) refl
+  decided-tells sound well told = go (verdict (st .premises)) refl
     where
       go : (v : Verdict) → verdict (st .premises) ≡ v
           → ToldOf start (settled (headOf p) st v .head) (record { request = q; answer = settled (headOf p) st v .answer } ∷ past)
       go Verdict.Passed f =
           let l = live (p .readers) in
           let full = leb capacity (p .readers .len) in
-          let inside = judged-bucket q formed in
-          let known = passed (formal q) formed .0 in
+          let inside = formed q well .bucket in
+          let known = passed (formal q) well .0 in
           pick pastLast (Entry start (headOf p) l (q .bucket) (q .clean) (q .value) full past sound inside told)
           (entries start (headOf p) l (q .bucket) (q .clean) (q .value) full past sound inside told)
           (q .step) (step-below (q .step) known)
