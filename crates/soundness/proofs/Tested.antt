@@ -21,7 +21,7 @@ use Rattle.readers.proofs.Bridge.{live-listed, length-listed, blank-listed, len
 use Rattle.page_record.specs.declared.{Head.Head, Page.Page}
 use Rattle.page_record.specs.Pages.{headOf, pageOf, numberAt}
 use Rattle.page_record.specs.References.{countAllRefs}
-use Rattle.rules.specs.Rules.{everyBucket, refCountInvariant, sharedStateValid, countsWithin, limitsKept}
+use Rattle.rules.specs.Rules.{everyBucket, refCountInvariant, sharedStateValid, countsUnder, limitsKept}
 use Rattle.soundness.specs.Soundness.{rules, soundOf}
 use Rattle.soundness.proofs.Facts.{Sound, SoundPage}
 use Rattle.soundness.proofs.Shapes.{rules-of}
@@ -41,12 +41,12 @@ every-bucket f k = simp and-iff (k 0 (omega arith), (k 1 (omega arith), (k 2 (om
 abbrev isFew : Count → Bool
 isFew c = leb (c .0) ceiling
 
-few-of : (cs : List Count) → T (countsWithin cs) → (b : ℕ) → numberAt cs b ≤ ceiling
+few-of : (cs : List Count) → T (countsUnder ceiling cs) → (b : ℕ) → numberAt cs b ≤ ceiling
 few-of cs t b = leb→le (numberAt cs b) ceiling (every-default isFew cs b (record { 0 = 0 }) t tt)
 
-of-few : (cs : List Count) → ((b : ℕ) → numberAt cs b ≤ ceiling) → T (countsWithin cs)
+of-few : (cs : List Count) → ((b : ℕ) → numberAt cs b ≤ ceiling) → T (countsUnder ceiling cs)
 of-few [] few = tt
-of-few (c ∷ cs) few = both (isFew c) (countsWithin cs) (le→leb (c .0) ceiling (few 0)) (of-few cs (λ b. few (suc b)))
+of-few (c ∷ cs) few = both (isFew c) (countsUnder ceiling cs) (le→leb (c .0) ceiling (few 0)) (of-few cs (λ b. few (suc b)))
 
 -- ---- from the test to the facts
 pub facts : (p : Page) → T (soundOf p) → SoundPage p
