@@ -1,11 +1,11 @@
 -- Laws of what bytes say, in this order: an entry that is missing, and one turn of the loop that reads the entries. Assumes nothing.
 use Prim.Native.Nat.{ℕ, suc, _+_, _-_, _<_, _≤_}
 use mathlib.Core.List.{List, [], _∷_, _++_}
-use mathlib.Core.Path.{_≡_, refl, sym, ap, _∙_}
+use mathlib.Core.Path.{_≡_, refl, ap, _∙_}
 use native.Mathlib.Omega.{arith}
-use native.Mathlib.Numerals.{add-one}
 use lib.ListN.{length, take, drop, set, drop-of-length-le}
-use lib.Seq.{take-suc-set, append-snoc, drop-drop}
+use lib.Seq.{drop-drop}
+use Rattle.laws.proofs.Turns.{store-next}
 use Rattle.kinds.specs.declared.Reader.{Reader}
 use Rattle.kinds.specs.Limits.{lineSize}
 use Rattle.kinds.specs.Numbers.{phaseFrom}
@@ -38,8 +38,4 @@ entry-turn l items n i at h k =
     ap (λ (m : ℕ). readersFrom m (drop at l)) one
     ∙ next-entry (n - (i + 1)) (drop at l)
     ∙ ap (λ (s : List ℕ). r ∷ readersFrom (n - (i + 1)) s) (drop-drop lineSize at l) in
-    let taken : take (i + 1) (set items i r) ≡ take i items ++ r ∷ [] =
-    ap (λ (m : ℕ). take m (set items i r)) (add-one i) ∙ take-suc-set items i r k in
-    ap (λ (s : List Reader). take i items ++ s) first
-    ∙ sym (append-snoc (take i items) r rest)
-    ∙ ap (λ (s : List Reader). s ++ rest) (sym taken)
+    ap (λ (s : List Reader). take i items ++ s) first ∙ store-next items i r rest k

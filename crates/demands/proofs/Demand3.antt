@@ -2,7 +2,7 @@
 -- of counts, storage and the values kept and handed out (proofs/Told.antt, Asked.antt); soundness carries storage's value to every
 -- holder, and shuts readers and the archive out while the page is out. A fresh page is one to start from (`demand3`), and what it
 -- starts with is plain (`fresh-start`, `counted-fresh`). Assumes nothing.
-use Prim.Native.Nat.{ℕ, zero, suc, _+_, _<_}
+use Prim.Native.Nat.{ℕ, _+_, _<_}
 use mathlib.Core.Path.{_≡_, refl, ap, _∙_}
 use mathlib.Core.Bool.{Bool, true, false, not, cond, _&&_, _||_}
 use mathlib.Core.List.{List, []}
@@ -10,8 +10,9 @@ use native.Mathlib.Omega.{arith}
 use lib.Dec.{T, eqb}
 use lib.ListN.{replicate}
 use Rattle.laws.proofs.Lists.{every-at}
+use Rattle.laws.proofs.Arms.{copies-at}
 use Rattle.kinds.specs.declared.{Phase.Phase, Reader.Reader, Storage.Storage, WritebackState.WritebackState}
-use Rattle.kinds.specs.declared.{MaybeBucket.MaybeBucket}
+use Rattle.kinds.specs.declared.{MaybeBucket.MaybeBucket, Count.Count}
 use Rattle.kinds.specs.Limits.{buckets}
 use Rattle.kinds.specs.Numbers.{phaseNumber}
 use Rattle.readers.specs.Listed.{live, blankReader}
@@ -124,11 +125,7 @@ fresh-start v =
     λ i. record { counts = λ b. none b i; value = v; out = false; loader = MaybeBucket.None; editor = MaybeBucket.None }
   where
     none : (b : ℕ) → numberAt (replicate buckets (record { 0 = 0 })) b ≡ 0
-    none zero = refl
-    none (suc zero) = refl
-    none (suc (suc zero)) = refl
-    none (suc (suc (suc zero))) = refl
-    none (suc (suc (suc (suc b)))) = refl
+    none b = ap (λ (c : Count). c .0) (copies-at buckets b (record { 0 = 0 }))
 
 pub demand3 : (v : ℕ) (qs : List Request)
     → Demand3 (startOf (freshPage v)) (after (freshPage v) qs) (history (freshPage v) qs [])

@@ -10,7 +10,7 @@ use Rattle.laws.specs.Lists.{every, among}
 use Rattle.laws.specs.Tables.{firstApplying}
 use Rattle.laws.proofs.Pick.{Below, _&_, pick}
 use Rattle.kinds.specs.declared.{Bucket.Bucket, ExcState.ExcState}
-use Rattle.kinds.specs.Numbers.{flagFrom, storageFrom, bucketFrom, phaseFrom, excFrom, loadingFrom, writebackFrom}
+use Rattle.kinds.specs.Numbers.{flags, flagFrom, storageFrom, bucketFrom, phaseFrom, excFrom, loadingFrom, writebackFrom}
 use Rattle.readers.specs.Listed.{noReaders, pushed, putAt, removedAt}
 use Rattle.page_record.specs.declared.Page.{Page}
 use Rattle.page_record.specs.Holders.{isClaim, isAwait, isPending, isEditing, excClean}
@@ -37,7 +37,7 @@ use Rattle.pieces.specs.Pieces.{pieceVerdict}
 use Rattle.demands.specs.Cases.{plain, put}
 use Rattle.demands.specs.History.{byRequest, byLine}
 use Rattle.demands.specs.Clean.{CleanTaking, FirstBack}
-use Rattle.demands.specs.Exhibits.{exhibited, flags, shown, holders, everyStepTaken, breakEach, brokenPages, breaksAlone, overLimits}
+use Rattle.demands.specs.Exhibits.{exhibited, shown, holders, everyStepTaken, breakEach, brokenPages, breaksAlone, overLimits}
 use Rattle.demands.specs.Exhibits.{answered, trials, mayAnswer, everyReturnShown, everyPutBackShown, wholeNumbers, refusesRightly}
 use Rattle.demands.specs.Exhibits.{pieceNumbers, endNumbers}
 use Rattle.demands.specs.Exhibits.{premises, resumes, resumed, looked, meanwhile}

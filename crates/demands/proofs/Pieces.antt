@@ -2,7 +2,7 @@
 -- requests at hand, so its lines are that run's. Demand 2 is that of any line, and demand 3 goes from piece to piece. Where bytes are
 -- cut does not matter (`cutting`): a piece's requests and what it leaves, with what comes after, are those of both together. Assumes
 -- nothing.
-use Prim.Native.Nat.{ℕ, _+_, _-_, _*_, _/_, _%_, _<_, _≤_}
+use Prim.Native.Nat.{ℕ, _-_, _*_, _/_, _%_, _<_, _≤_}
 use mathlib.Core.Path.{_≡_, refl, sym, ap, subst, _∙_}
 use mathlib.Core.List.{List, [], _∷_, _++_, append-assoc, append-nil}
 use native.Mathlib.Omega.{arith}

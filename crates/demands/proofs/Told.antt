@@ -15,9 +15,7 @@ use Rattle.laws.proofs.Pick.{Below, _&_, pick}
 use Rattle.kinds.specs.declared.{Bucket.Bucket, Count.Count, Storage.Storage, MaybeBucket.MaybeBucket, Reader.Reader}
 use Rattle.kinds.specs.declared.{Phase.Phase, ExcState.ExcState, LoadingState.LoadingState}
 use Rattle.kinds.specs.Limits.{buckets, capacity}
-use Rattle.readers.specs.declared.Found.{Found}
 use Rattle.readers.specs.Listed.{live, findIn}
-use Rattle.readers.proofs.First.{found}
 use Rattle.page_record.specs.declared.{Head.Head, Page.Page}
 use Rattle.page_record.specs.Holders.{isStored, hasBucket, validBucket, noExc, isClaim, isAwait, isPending, isEditing, excBucket}
 use Rattle.page_record.specs.Holders.{noLoad, isLoading, loadingBucket, valueOf, excValue}
@@ -35,12 +33,13 @@ use Rattle.requests.specs.Premises.{Passes, verdict}
 use Rattle.requests.specs.Requests.{formal, judged, pastLast}
 use Rattle.requests.proofs.Verdicts.{passed}
 use Rattle.requests.proofs.Reasons.{refusal-positive}
-use Rattle.requests.proofs.Formed.{judged-bucket, step-below}
+use Rattle.requests.proofs.Formed.{formed, step-below}
 use Rattle.heads.specs.Setters.{raise, lower, lowerIf}
-use Rattle.heads.specs.Decisions.{Step, settled, isFound, reader}
+use Rattle.heads.specs.Decisions.{Step, settled, isFound, placeOf, reader}
 use Rattle.steps.specs.Decide.{stepAt, soughtOf, decideOf}
 use Rattle.lock.specs.Words.{raising, leaving, givingBack, puttingIn, handingOut, fetching}
 use Rattle.lock.specs.Step.{lookFor, stepped, stepOf}
+use Rattle.lock.proofs.Keeps.Cells.{found-first}
 use Rattle.lock.proofs.Keeps.Counts.{number-raise, number-lower}
 use Rattle.lock.proofs.Exact.Granted.{granted, exc-within}
 use Rattle.demands.specs.History.{Event, Start, startOf, startWith, event, arrivals, departures, lastPut}
@@ -122,13 +121,9 @@ module _ (start : Start) (h : Head) (l : List Reader) (b : Bucket) (clean value 
 
   -- a reader that is found is counted
   found-counted : (phase : Phase) → T (isFound (findIn l (reader phase b))) → 1 ≤ numberAt (h .«ref_counts») (b .0)
-  found-counted phase t = go (findIn l (reader phase b)) refl t
-    where
-      go : (f : Found) → findIn l (reader phase b) ≡ f → T (isFound f) → 1 ≤ numberAt (h .«ref_counts») (b .0)
-      go (Found.At i) e t =
-          let f = found (reader phase b) l i e in
-          rw (f .equal) at (listed-counted s i (f .inside))
-      go Found.Nowhere e t = absurd t
+  found-counted phase t =
+      let f = found-first l (reader phase b) t in
+      rw (f .equal) at (listed-counted s (placeOf (findIn l (reader phase b))) (f .inside))
 
   -- a withdrawal hands out what was last put in
   was-put : (v : ℕ) → h .storage ≡ Storage.In v → v ≡ lastPut start past
@@ -411,15 +406,15 @@ module _ (start : Start) (p : Page) (q : Request) (past : List Event) where
   decided-tells : Sound (headOf p) (live (p .readers)) → judged q ≡ Verdict.Passed → ToldOf start (headOf p) past
       → ToldOf start (headOf (stepped p q Verdict.Passed .page)) (record { request = q; answer = stepped p q Verdict.Passed .answer } ∷ past)
   unfolding decideOf judged
-  decided-tells sound formed told = go (verdict (st .premises)) refl
+  decided-tells sound well told = go (verdict (st .premises)) refl
     where
       go : (v : Verdict) → verdict (st .premises) ≡ v
           → ToldOf start (settled (headOf p) st v .head) (record { request = q; answer = settled (headOf p) st v .answer } ∷ past)
       go Verdict.Passed f =
           let l = live (p .readers) in
           let full = leb capacity (p .readers .len) in
-          let inside = judged-bucket q formed in
-          let known = passed (formal q) formed .0 in
+          let inside = formed q well .bucket in
+          let known = passed (formal q) well .0 in
           pick pastLast (Entry start (headOf p) l (q .bucket) (q .clean) (q .value) full past sound inside told)
           (entries start (headOf p) l (q .bucket) (q .clean) (q .value) full past sound inside told)
           (q .step) (step-below (q .step) known)

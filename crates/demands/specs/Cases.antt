@@ -1,6 +1,6 @@
 -- The worked cases A to H and K to O of RULES 10 as one table: what each request is answered, and what is said of the record then; the
 -- departures of K and L; and case A as the bytes of a run.
-use Prim.Native.Nat.{ℕ, _+_}
+use Prim.Native.Nat.{ℕ}
 use mathlib.Core.Bool.{Bool, true, false, not, _&&_, Bool·beq}
 use mathlib.Core.List.{List, [], _∷_, _++_, map}
 use lib.Dec.{eqb}

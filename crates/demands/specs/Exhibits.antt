@@ -11,7 +11,7 @@ use Rattle.laws.specs.Lists.{every, among}
 use Rattle.kinds.specs.declared.{Flag.Flag, MaybeBucket.MaybeBucket, Count.Count, Storage.Storage, Phase.Phase, Reader.Reader}
 use Rattle.kinds.specs.declared.{ExcState.ExcState, LoadingState.LoadingState, WritebackState.WritebackState}
 use Rattle.kinds.specs.Limits.{mostRequests, lineSize}
-use Rattle.kinds.specs.Numbers.{flagNumber, excNumber, loadingNumber, writebackNumber, phaseNumber}
+use Rattle.kinds.specs.Numbers.{flags, flagNumber, excNumber, loadingNumber, writebackNumber, phaseNumber}
 use Rattle.readers.specs.declared.Readers.{Readers}
 use Rattle.readers.specs.Listed.{live, listed, noReaders}
 use Rattle.page_record.specs.declared.Page.{Page}
@@ -63,12 +63,6 @@ wayTo Flag.WritebackAndPendingExcLock = fills ++ plain 1 ∷ plain 3 ∷ plain 5
 wayTo Flag.PendingExcLock = fills ++ plain 3 ∷ plain 5 ∷ []
 wayTo Flag.ExcLockClean = fills ++ plain 3 ∷ plain 5 ∷ clean 1 ∷ []
 wayTo Flag.ExcLockDirty = fills ++ plain 3 ∷ plain 5 ∷ clean 0 ∷ []
-
-abbrev pub flags : List Flag
-flags =
-    Flag.Unmapped ∷ Flag.Loading ∷ Flag.LoadingExcLock ∷ Flag.Available ∷ Flag.Claimed ∷ Flag.Writeback
-    ∷ Flag.WritebackAndClaimed ∷ Flag.WritebackAndPendingExcLock ∷ Flag.PendingExcLock ∷ Flag.ExcLockClean ∷ Flag.ExcLockDirty
-    ∷ []
 
 abbrev pub pageUnder : Flag → Page
 pageUnder f = led (wayTo f)

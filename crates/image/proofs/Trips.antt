@@ -12,6 +12,7 @@ use lib.Dec.{T, eqb, leb→le}
 use lib.ListN.{length, take, drop, getD, replicate, length-take}
 use lib.Seq.{drop-at}
 use Rattle.laws.proofs.Tests.{to-true, is-true, both, halves, and-iff}
+use Rattle.laws.proofs.Lists.{each-take}
 use Rattle.kinds.specs.declared.{Visited.Visited, MaybeBucket.MaybeBucket, Storage.Storage, Phase.Phase, Reader.Reader}
 use Rattle.kinds.specs.declared.{ExcState.ExcState, WritebackState.WritebackState}
 use Rattle.kinds.specs.Limits.{lineSize, capacity, ceiling, shortCapacity, Limits, today, short}
@@ -228,19 +229,14 @@ readers-below zero l bytes i = omega arith
 readers-below (suc n) l bytes zero = phase-below (getD l 0 0) (u64At 8 l) (u64-below l bytes 8)
 readers-below (suc n) l bytes (suc i) = readers-below n (drop lineSize l) (bytes-drop lineSize l bytes) i
 
-ranged-take : (n : ℕ) (l : List Reader) → Ranged l → Ranged (take n l)
-ranged-take zero l r i = omega arith
-ranged-take (suc n) [] r i = omega arith
-ranged-take (suc n) (x ∷ l) r zero = r 0
-ranged-take (suc n) (x ∷ l) r (suc i) = ranged-take n l (λ j. r (suc j)) i
-
 pub in-range : (l : List ℕ) → Bytes l → InRange (pageFrom l)
 unfolding pageFrom headFrom excFromBytes
 in-range l bytes = record {
   stored = storage-below (getD l 1 0) (u64At 32 l) (u64-below l bytes 32);
   held = exc-below (getD l 4 0) (bucketFrom (getD l 5 0)) (record { 0 = getD l 6 0 }) (eqb (getD l 7 0) 1) (u64At 40 l) (u64-below l bytes 40);
   written = writeback-below (getD l 10 0) (u64At 48 l) (u64-below l bytes 48);
-  read = ranged-take (lengthFrom l) (readersFrom capacity (drop headSize l))
+  read = each-take (λ r. phaseValue (r .phase) < valueLimit) blankReader (omega arith) (lengthFrom l)
+      (readersFrom capacity (drop headSize l))
       (readers-below capacity (drop headSize l) (bytes-drop headSize l bytes));
 }
 

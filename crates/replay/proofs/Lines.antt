@@ -1,6 +1,6 @@
 -- The answers of a run. In one that is accepted line k is the answer to request k, from the page that the first k requests
--- left, the page at the end is the one that all of them leave, and the bytes past the last line are as they were. In order:
--- the lines, the buffer, a run that is accepted. Assumes nothing.
+-- left, and the page at the end is the one that all of them leave. In any run the bytes past the last line stay as they were. In
+-- order: the lines, the buffer, a run that is accepted. Assumes nothing.
 use Prim.Native.Nat.{ℕ, zero, suc, _+_, _*_, _/_, _<_, _≤_}
 use mathlib.Core.Path.{_≡_, refl, ap, _∙_, sym}
 use mathlib.Core.List.{List, [], _∷_, _++_, append-assoc}
@@ -68,7 +68,7 @@ module _ (page : Page) (requests : List ℕ) (space : ℕ) (passed : runVerdict 
   pub requests-fit : length requests ≤ space
   requests-fit = let a = fit passed in omega arith
 
--- its length never changes
+-- its length never changes, nor what lies past the lines
 module _ (page : Page) (requests answers : List ℕ) where
   length-fills : (v : Verdict) → runVerdict page (length requests) (length answers) ≡ v
       → length (fills page requests answers v) ≡ length answers
@@ -81,6 +81,17 @@ module _ (page : Page) (requests answers : List ℕ) where
   pub length-answers : length (answersOf page requests answers) ≡ length answers
   unfolding answersOf
   length-answers = length-fills (runVerdict page (length requests) (length answers)) refl
+
+  past-fills : (v : Verdict) → runVerdict page (length requests) (length answers) ≡ v
+      → drop (length requests) (fills page requests answers v) ≡ drop (length requests) answers
+  past-fills Verdict.Passed e =
+      drop-at (linesOf page (requestsOf requests)) (drop (length requests) answers) (length requests)
+      (lines-fit page requests (length answers) e)
+  past-fills (Verdict.Failed why) e = refl
+
+  pub past-lines : drop (length requests) (answersOf page requests answers) ≡ drop (length requests) answers
+  unfolding answersOf
+  past-lines = past-fills (runVerdict page (length requests) (length answers)) refl
 
 -- ---- a run that is accepted
 module _ (page : Page) (requests answers : List ℕ) (accepted : ranOf page requests answers .answer ≡ Answer.Accepted) where
@@ -103,10 +114,3 @@ module _ (page : Page) (requests answers : List ℕ) (accepted : ranOf page requ
       ∙ line-in lineSize (length qs) k (linesOf page qs) (drop (length requests) answers) (length-lines page qs) in-range
       ∙ line-of lineSize length-line page qs k in-range
       ∙ ap (λ (q : List ℕ). lineOf (turnOf (pageAt k page requests) q .answer)) (request-at requests k h)
-
-  -- the bytes past the last line stay
-  pub past-lines : drop (length requests) (answersOf page requests answers) ≡ drop (length requests) answers
-  past-lines =
-      ap (drop (length requests)) answers-are
-      ∙ drop-at (linesOf page (requestsOf requests)) (drop (length requests) answers) (length requests)
-      (lines-fit page requests (length answers) (verdict-accepted page requests answers accepted))

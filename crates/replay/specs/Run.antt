@@ -55,9 +55,6 @@ wholePremises sound bytes space =
     ∷ (Refusal.NoRoom, leb (lineSize * (bytes / lineSize)) space)
     ∷ []
 
-abbrev pub runPremises : Page → List ℕ → List ℕ → List (Refusal × Bool)
-runPremises page requests answers = wholePremises (soundOf page) (length requests) (length answers)
-
 unfoldable pub runVerdict : Page → ℕ → ℕ → Verdict
 runVerdict page bytes space = verdict (wholePremises (soundOf page) bytes space)
 
