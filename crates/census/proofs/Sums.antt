@@ -56,9 +56,9 @@ module _ (p : Page) where
   pub census-row : T (soundOf p) → (b : ℕ) → b < buckets → getD (censusOf p) b [] ≡ censusRow (live (p .readers)) b
   unfolding censusOf
   census-row s b h =
-      let rows = live (p .readers) in
+      let l = live (p .readers) in
       simp (to-true (soundOf p) s)
-      (pick buckets (λ b. getD (censusRows rows) b [] ≡ censusRow rows b) (refl & refl & refl & refl & tt) b h)
+      (pick buckets (λ b. getD (censusRows l) b [] ≡ censusRow l b) (refl & refl & refl & refl & tt) b h)
 
   pub census-sums : T (soundOf p) → (b : ℕ) → b < buckets
       → numberAt (getD (censusOf p) b []) 0 + numberAt (getD (censusOf p) b []) 1 + numberAt (getD (censusOf p) b []) 2
