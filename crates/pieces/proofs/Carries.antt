@@ -9,8 +9,9 @@ use native.Mathlib.Omega.{arith}
 use borrow.Author.Tests.{eq-eqb, le-leb, lt-leb}
 use lib.Dec.{eqb, leb, eqb→eq, leb→le}
 use lib.ListN.{length, take, drop, replicate, length-append, length-drop, length-replicate, take-append-drop}
-use lib.Seq.{take-all, take-length, take-append-seam, drop-append-seam, length-take-le}
+use lib.Seq.{take-all, take-append-seam, drop-append-seam, length-take-le}
 use Rattle.laws.proofs.Tests.{is-true, to-true, both, halves, parts-true}
+use Rattle.laws.proofs.Parts.{copied}
 use Rattle.requests.specs.declared.{Refusal.Refusal, Answer.Answer, Verdict.Verdict}
 use Rattle.requests.specs.Premises.{verdict}
 use Rattle.requests.proofs.Verdicts.{passed as all-hold}
@@ -41,9 +42,7 @@ pub carried-by : (rest bytes : List ℕ) (n : ℕ) → n ≡ length rest
 unfolding carryOf
 carried-by rest bytes n same made =
     let all : bytes ≡ rest ++ replicate (carrySize - length rest) 0 =
-    made
-    ∙ ap (λ (z : List ℕ). z ++ drop (length rest) (replicate carrySize 0)) (take-length rest)
-    ∙ ap (λ (z : List ℕ). rest ++ z) (drop-zeros (length rest) carrySize) in
+    copied rest (replicate carrySize 0) bytes made ∙ ap (λ (z : List ℕ). rest ++ z) (drop-zeros (length rest) carrySize) in
     λ i. record { bytes = all i; len = same i }
 
 module _ (l : List ℕ) where

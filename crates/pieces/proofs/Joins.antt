@@ -6,9 +6,10 @@ use mathlib.Core.Path.{_≡_, refl, sym, ap, _∙_}
 use mathlib.Core.List.{List, [], _∷_, _++_, append-assoc, append-nil}
 use native.Mathlib.Omega.{arith}
 use native.Mathlib.Nat.{mul-zero, mul-suc}
-use borrow.Rule.Slice.PartMut.{midOf, putMid, mid-len}
+use borrow.Rule.Slice.PartMut.{midOf, putMid}
 use lib.ListN.{length, take, drop, length-append, length-drop, take-append-drop, drop-of-length-le}
-use lib.Seq.{take-all, take-length, take-at, drop-at, take-append-le, drop-append-le, drop-drop, length-take-le}
+use lib.Seq.{drop-at, take-append-le, drop-append-le, drop-drop, length-take-le}
+use Rattle.laws.proofs.Parts.{rest-is, copied, put-next}
 use Rattle.kinds.specs.Limits.{lineSize}
 use Rattle.replay.specs.Run.{cut, requestsOf}
 use Rattle.pieces.specs.Pieces.{wholeIn, wholeOf, restOf}
@@ -107,34 +108,29 @@ module _ (h piece out mid : List ℕ) (n : ℕ) (wide : length h ≡ n) (room : 
   abbrev rest : List ℕ
   rest = drop n out
 
+  abbrev left : ℕ
+  left = length mid - n
+
   first-is : mid ≡ h ++ rest
-  first-is = first ∙ ap (λ (z : List ℕ). z ++ drop (length h) out) (take-length h) ∙ ap (λ (k : ℕ). h ++ drop k out) wide
-
-  as-long : length mid ≡ length out
-  as-long = ap length first-is ∙ length-append h rest ∙ (let e = length-drop n out in omega arith)
-
-  pub second-room : length piece ≤ length (midOf n (length mid - n) mid)
-  second-room = let e = mid-len n (length mid) mid (omega arith) in omega (arith, as-long)
+  first-is = copied h out mid first ∙ ap (λ (k : ℕ). h ++ drop k out) wide
 
   -- the part is all that is left
-  part-is : midOf n (length mid - n) mid ≡ rest
-  part-is =
-      let e : drop n mid ≡ rest = ap (drop n) first-is ∙ drop-at h rest n wide in
-      let f : length rest ≤ length mid - n = simp length-drop (omega (arith, as-long)) in
-      ap (take (length mid - n)) e ∙ take-all (length mid - n) rest f
+  part-is : midOf n left mid ≡ rest
+  part-is = rest-is n mid ∙ ap (drop n) first-is ∙ drop-at h rest n wide
 
-  pub joined-by : (ys : List ℕ) → ys ≡ take (length piece) piece ++ drop (length piece) (midOf n (length mid - n) mid)
-      → putMid n (length mid - n) mid ys ≡ (h ++ piece) ++ drop (n + length piece) out
+  pub second-room : length piece ≤ length (midOf n left mid)
+  second-room = omega (arith, ap length part-is, length-drop n out)
+
+  pub joined-by : (ys : List ℕ) → ys ≡ take (length piece) piece ++ drop (length piece) (midOf n left mid)
+      → putMid n left mid ys ≡ (h ++ piece) ++ drop (n + length piece) out
   joined-by ys second =
       let second-is : ys ≡ piece ++ drop (length piece) rest =
-      second
-      ∙ ap (λ (z : List ℕ). z ++ drop (length piece) (midOf n (length mid - n) mid)) (take-length piece)
-      ∙ ap (λ (z : List ℕ). piece ++ drop (length piece) z) part-is in
-      let none : drop (length mid - n) (drop n mid) ≡ [] =
-      drop-of-length-le (drop n mid) {i = length mid - n} (simp length-drop (omega arith)) in
-      ap (λ (z : List ℕ). take n mid ++ (ys ++ z)) none
-      ∙ ap (λ (z : List ℕ). take n mid ++ z) (append-nil ys)
-      ∙ ap (λ (z : List ℕ). z ++ ys) (ap (take n) first-is ∙ take-at h rest n wide)
+      copied piece (midOf n left mid) ys second ∙ ap (λ (z : List ℕ). piece ++ drop (length piece) z) part-is in
+      let all : length rest ≤ left = omega (arith, ap length first-is, length-append h rest) in
+      ap (λ (z : List ℕ). putMid n left z ys) first-is
+      ∙ put-next h rest ys n left wide
+      ∙ ap (λ (z : List ℕ). (h ++ ys) ++ z) (drop-of-length-le rest all)
+      ∙ append-nil (h ++ ys)
       ∙ ap (λ (z : List ℕ). h ++ z) second-is
       ∙ sym (append-assoc h piece (drop (length piece) rest))
       ∙ ap (λ (z : List ℕ). (h ++ piece) ++ z) (drop-drop (length piece) n out)

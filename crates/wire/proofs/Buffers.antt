@@ -1,10 +1,11 @@
 -- What a lent buffer holds after a line is written: the line first, what stood past it as it was, and all of it as it was
 -- where the writing is refused. Assumes nothing.
-use Prim.Native.Nat.{ℕ, _<_, _≤_}
+use Prim.Native.Nat.{ℕ, _+_, _-_, _<_, _≤_}
 use mathlib.Core.Path.{_≡_, refl, ap, _∙_}
 use mathlib.Core.List.{List, _++_, append-nil}
 use native.Mathlib.Omega.{arith}
 use borrow.Author.Tests.{le-leb, lt-leb}
+use borrow.Rule.Slice.PartMut.{midOf, mid-len}
 use lib.ListN.{length, take, drop, drop-of-length-le}
 use lib.Seq.{take-at, drop-at}
 use Rattle.kinds.specs.Limits.{lineSize}
@@ -31,6 +32,12 @@ module _ (bytes l : List ℕ) where
       put-fits (omega arith) .1
       ∙ ap (λ (r : List ℕ). bytes ++ r) (drop-of-length-le l {i = lineSize} (omega arith))
       ∙ append-nil bytes
+
+-- so does the part of a buffer that is lent for it
+pub put-part : (bytes l : List ℕ) (at : ℕ) → at + lineSize ≤ length l → putTo bytes (midOf at (at + lineSize - at) l) ≡ bytes
+put-part bytes l at h =
+    let width : at + lineSize - at ≡ lineSize = omega arith in
+    put-whole bytes (midOf at (at + lineSize - at) l) (mid-len at (at + lineSize) l h ∙ width)
 
 -- ---- a request into a buffer
 pub length-bytes : (q : Request) → length (bytesOf q) ≡ lineSize
