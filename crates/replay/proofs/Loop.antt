@@ -8,6 +8,7 @@ use native.Mathlib.Omega.{arith}
 use borrow.Rule.Slice.PartMut.{midOf, putMid}
 use lib.ListN.{length, take, drop, take-append-drop}
 use lib.Seq.{drop-drop}
+use Rattle.laws.specs.Lists.{cut}
 use Rattle.laws.proofs.Parts.{part-length, part-turn, part-past}
 use Rattle.kinds.specs.Limits.{lineSize}
 use Rattle.page_record.specs.declared.Page.{Page}
@@ -17,7 +18,7 @@ use Rattle.wire.specs.Buffers.{putTo}
 use Rattle.wire.proofs.Buffers.{put-part}
 use Rattle.wire.proofs.Lines.{length-line}
 use Rattle.replay.specs.Turns.{turnOf}
-use Rattle.replay.specs.Run.{cut, pageAfter, linesOf}
+use Rattle.replay.specs.Run.{pageAfter, linesOf}
 
 -- ---- the first of the requests still to come
 module _ (w : ℕ) (qs : List ℕ) (at n : ℕ) (page : Page) where

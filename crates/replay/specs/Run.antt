@@ -1,10 +1,11 @@
 -- A run: each request is answered from the page that those before it left, and each has its line of the answers. A run that
 -- is refused as a whole touches neither the page nor the answer buffer.
-use Prim.Native.Nat.{ℕ, zero, suc, _*_, _/_, _%_}
+use Prim.Native.Nat.{ℕ, _*_, _/_, _%_}
 use mathlib.Core.Bool.{Bool}
 use mathlib.Core.List.{List, [], _∷_, _++_}
 use lib.Dec.{eqb, leb}
 use lib.ListN.{length, take, drop}
+use Rattle.laws.specs.Lists.{cut}
 use Rattle.kinds.specs.Limits.{lineSize, mostRequests}
 use Rattle.page_record.specs.declared.Page.{Page}
 use Rattle.soundness.specs.Soundness.{soundOf}
@@ -16,12 +17,7 @@ use Rattle.wire.specs.Answers.{lineOf}
 use Rattle.replay.specs.Turns.{turnOf}
 
 -- ---- the requests
--- n pieces of w bytes each
-abbrev pub cut : ℕ → ℕ → List ℕ → List (List ℕ)
-cut w zero l = []
-cut w (suc n) l = take w l ∷ cut w n (drop w l)
-
--- the requests, sixteen bytes each
+-- sixteen bytes each
 abbrev pub requestsOf : List ℕ → List (List ℕ)
 requestsOf l = cut lineSize (length l / lineSize) l
 
