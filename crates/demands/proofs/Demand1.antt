@@ -139,5 +139,5 @@ module _ (p : Page) (requests answers : List ℕ) where
     next = page-next p requests;
     refused-line = λ k h why e. page-next p requests k h ∙ refused-turn (pageAt k p requests) (lineAt k requests) why e;
     page = λ e. page-end p requests answers e ∙ sym (page-all p requests);
-    past = past-lines p requests answers;
+    past = λ e. past-lines p requests answers;
   }

@@ -14,6 +14,7 @@ use Rattle.requests.specs.Premises.{verdict}
 use Rattle.lock.specs.declared.Outcome.{Outcome}
 use Rattle.lock.specs.Step.{refusedBy}
 use Rattle.wire.specs.Answers.{lineOf}
+use Rattle.wire.specs.Buffers.{leaves}
 use Rattle.replay.specs.Turns.{turnOf}
 
 -- ---- the requests
@@ -68,8 +69,7 @@ ranOf page requests answers = ends page requests (runVerdict page (length reques
 
 -- the lines, as many bytes as the requests have, and what stood past them; a refusal leaves the buffer
 abbrev pub fills : Page → List ℕ → List ℕ → Verdict → List ℕ
-fills page requests answers Verdict.Passed = linesOf page (requestsOf requests) ++ drop (length requests) answers
-fills page requests answers (Verdict.Failed why) = answers
+fills page requests answers v = leaves (length requests) v (linesOf page (requestsOf requests)) answers
 
 unfoldable pub answersOf : Page → List ℕ → List ℕ → List ℕ
 answersOf page requests answers = fills page requests answers (runVerdict page (length requests) (length answers))
