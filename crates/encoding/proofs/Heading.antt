@@ -1,6 +1,6 @@
 -- Laws of the parts of an image that are put one after the other, over any widths: four numbers, which the values of the head are an
 -- instance of, and the four parts of the image. Assumes nothing.
-use Prim.Native.Nat.{ℕ, zero, suc, _-_, _/_, _≤_}
+use Prim.Native.Nat.{ℕ, zero, suc, _-_, _*_, _/_, _≤_}
 use mathlib.Core.List.{List, _++_}
 use mathlib.Core.Path.{_≡_, refl, sym, ap, _∙_}
 use native.Mathlib.Nat.{le-of-eq}
@@ -8,6 +8,7 @@ use native.Mathlib.Omega.{arith}
 use borrow.Rule.Slice.PartMut.{midOf, putMid, mid-len}
 use lib.ListN.{length}
 use Rattle.laws.proofs.Parts.{part-length, four-parts}
+use Rattle.kinds.specs.Limits.{lineSize}
 use Rattle.page_record.specs.declared.Head.{Head}
 use Rattle.page_record.specs.Holders.{valueOf, excValue, writebackValue}
 use Rattle.wire.specs.Bytes.{lowBytes}
@@ -88,14 +89,14 @@ unfolding valueBytes
 values-are h v1 v2 v3 l e1 e2 e3 e = e ∙ rw (e1, e2, e3)
 
 -- ---- the parts of an image
-pub length-kinds : (h : Head) (len : ℕ) → length (kindBytes h len) ≡ 16
+pub length-kinds : (h : Head) (len : ℕ) → length (kindBytes h len) ≡ lineSize
 unfolding kindBytes
 length-kinds h len = refl
 
-pub length-counts : (h : Head) → length (countBytes h) ≡ 16
+pub length-counts : (h : Head) → length (countBytes h) ≡ lineSize
 unfolding countBytes
 length-counts h = refl
 
-pub length-values : (h : Head) → length (valueBytes h) ≡ 32
+pub length-values : (h : Head) → length (valueBytes h) ≡ 2 * lineSize
 unfolding valueBytes
 length-values h = refl
