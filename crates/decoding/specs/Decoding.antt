@@ -9,7 +9,7 @@ use Rattle.kinds.specs.Limits.{lineSize, capacity}
 use Rattle.kinds.specs.Numbers.{flagFrom, storageFrom, bucketFrom, phaseFrom, excFrom, loadingFrom, writebackFrom}
 use Rattle.page_record.specs.declared.{Head.Head, Page.Page}
 use Rattle.page_record.specs.Pages.{headWith, pageOf}
-use Rattle.wire.specs.Bytes.{number}
+use Rattle.wire.specs.Bytes.{valueAt, number}
 use Rattle.encoding.specs.Images.{headSize}
 
 -- the number of eight bytes at a place
@@ -35,7 +35,7 @@ lengthFrom l = getD l 2 0 + 256 * getD l 3 0
 
 -- the reader of the entry that the bytes begin with
 unfoldable pub readerFrom : List ℕ → Reader
-readerFrom l = record { phase = phaseFrom (getD l 0 0) (u64At 8 l); bucket = record { 0 = getD l 1 0 } }
+readerFrom l = record { phase = phaseFrom (getD l 0 0) (u64At valueAt l); bucket = record { 0 = getD l 1 0 } }
 
 -- those of n entries, as they stand
 unfoldable pub readersFrom : ℕ → List ℕ → List Reader

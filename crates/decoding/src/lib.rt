@@ -19,7 +19,6 @@ use encoding::PHASE;
 use encoding::READERS;
 use encoding::STORAGE_VALUE;
 use encoding::STORED;
-use encoding::VALUE;
 use encoding::VISITED;
 use encoding::WRITEBACK;
 use encoding::WRITEBACK_VALUE;
@@ -43,6 +42,7 @@ use page_record::Page;
 use page_record::page_of;
 use readers::Readers;
 use readers::blank;
+use wire::VALUE;
 
 // The byte at a place.
 fn byte_at(bytes: &[u8], at: usize) -> u8

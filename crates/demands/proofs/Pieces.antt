@@ -8,7 +8,7 @@ use mathlib.Core.List.{List, [], _∷_, _++_, append-assoc, append-nil}
 use native.Mathlib.Omega.{arith}
 use lib.Dec.{T}
 use lib.ListN.{length, take, drop, getD, length-replicate}
-use lib.Seq.{take-at, drop-at}
+use lib.Seq.{take-at}
 use Rattle.laws.proofs.Tests.{to-true, is-true}
 use Rattle.laws.proofs.Tables.{first-lowest, first-none}
 use Rattle.kinds.specs.Limits.{lineSize}
@@ -19,6 +19,7 @@ use Rattle.soundness.proofs.FreshPage.{fresh-sound}
 use Rattle.requests.specs.declared.{Refusal.Refusal, Answer.Answer, Verdict.Verdict}
 use Rattle.lock.specs.declared.Outcome.{Outcome}
 use Rattle.wire.specs.Answers.{lineOf}
+use Rattle.wire.proofs.Buffers.{leaves-past}
 use Rattle.image.specs.Keeping.{restoredFrom}
 use Rattle.image.proofs.Trips.{restored-sound}
 use Rattle.replay.specs.Turns.{turnOf}
@@ -82,8 +83,7 @@ stays : (p : Page) (c : Carry) (piece answers : List ℕ) (v : Verdict)
     → drop (lineSize * takes p c piece v .lines) (puts p c piece answers v) ≡ drop (lineSize * takes p c piece v .lines) answers
 stays p c piece answers Verdict.Passed =
     let l = atHand c piece in
-    let rest = drop (wholeIn (length l)) answers in
-    drop-at (linesOf p (requestsOf l)) rest (wholeIn (length l)) (length-whole-lines p l)
+    leaves-past (wholeIn (length l)) (linesOf p (requestsOf l)) answers Verdict.Passed (λ e. length-whole-lines p l)
 stays p c piece answers (Verdict.Failed why) = refl
 
 pub demand1-piece : (p : Page) (c : Carry) (piece answers : List ℕ) → Demand1Piece p c piece answers

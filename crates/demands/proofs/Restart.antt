@@ -4,10 +4,10 @@ use Prim.Native.Nat.{ℕ, _≤_}
 use mathlib.Core.Path.{_≡_, refl, sym, ap, subst, _∙_}
 use mathlib.Core.Logic.{_↔_}
 use mathlib.Core.Bool.{Bool, true, false, not, _||_, true≢false}
-use mathlib.Core.List.{List, _++_, append-nil}
+use mathlib.Core.List.{List, _++_}
 use native.Mathlib.Omega.{arith}
 use lib.Dec.{T}
-use lib.ListN.{length, drop, drop-of-length-le}
+use lib.ListN.{length, drop}
 use Rattle.laws.specs.Tables.{appliesIn}
 use Rattle.laws.proofs.Tests.{to-true}
 use Rattle.laws.proofs.Tables.{first-lowest, first-none}
@@ -18,6 +18,7 @@ use Rattle.requests.specs.declared.Answer.{Answer}
 use Rattle.requests.specs.Premises.{verdict}
 use Rattle.requests.proofs.Verdicts.{passed}
 use Rattle.wire.specs.Bytes.{Bytes}
+use Rattle.wire.proofs.Buffers.{leaves-whole}
 use Rattle.wire.proofs.Premises.{answer-passed}
 use Rattle.encoding.specs.Images.{wholeSize, shortSize, imageOf, lengthened, InRange}
 use Rattle.image.specs.Keeping.{limitsBy, ImageUnder, restored, restoredFrom, keepable, keptAnswer, keptIn}
@@ -84,8 +85,7 @@ wholly l p long e = subst (λ (x : Limits). imageOf (x .readers) p ≡ l) (by-ot
 module _ (l buffer : List ℕ) (p : Page) (long : Long l) (bytes : Bytes l) (whole : length buffer ≡ wholeSize) where
   -- nothing of the buffer is left
   alone : imageOf capacity p ++ drop wholeSize buffer ≡ imageOf capacity p
-  alone =
-      ap (λ (z : List ℕ). imageOf capacity p ++ z) (drop-of-length-le buffer {i = wholeSize} (omega arith)) ∙ append-nil (imageOf capacity p)
+  alone = leaves-whole wholeSize (imageOf capacity p) buffer whole
 
   there : restoredFrom l ≡ restored p → InRange p × (keptAnswer p buffer ≡ Answer.Accepted) × (keptIn p buffer ≡ l)
   there e =

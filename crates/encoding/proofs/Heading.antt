@@ -1,17 +1,18 @@
 -- Laws of the parts of an image that are put one after the other, over any widths: four numbers, which the values of the head are an
 -- instance of, and the four parts of the image. Assumes nothing.
-use Prim.Native.Nat.{ℕ, zero, suc, _-_, _/_, _≤_}
-use mathlib.Core.List.{List, _++_, append-nil}
+use Prim.Native.Nat.{ℕ, zero, suc, _-_, _*_, _/_, _≤_}
+use mathlib.Core.List.{List, _++_}
 use mathlib.Core.Path.{_≡_, refl, sym, ap, _∙_}
+use native.Mathlib.Nat.{le-of-eq}
 use native.Mathlib.Omega.{arith}
 use borrow.Rule.Slice.PartMut.{midOf, putMid, mid-len}
-use lib.ListN.{length, take, drop, drop-of-length-le}
-use lib.Seq.{take-all}
+use lib.ListN.{length}
+use Rattle.laws.proofs.Parts.{part-length, four-parts}
+use Rattle.kinds.specs.Limits.{lineSize}
 use Rattle.page_record.specs.declared.Head.{Head}
 use Rattle.page_record.specs.Holders.{valueOf, excValue, writebackValue}
 use Rattle.wire.specs.Bytes.{lowBytes}
 use Rattle.encoding.specs.Images.{kindBytes, countBytes, valueBytes}
-use Rattle.encoding.proofs.Slices.{no-more, part-length, four-parts}
 
 within : {m n d : ℕ} → m ≤ d → n ≡ d → m ≤ n
 within h e = omega arith
@@ -47,7 +48,7 @@ module _ (old y1 y2 y3 : List ℕ) (a b c d : ℕ) (ad : a ≤ d) (bd : b ≤ d)
   room3 w1 w2 = mid-len b c s2 (within cd (long2 w1 w2))
 
   pub room4 : length y1 ≡ a - 0 → length y2 ≡ b - a → length y3 ≡ c - b → length (midOf c (d - c) s3) ≡ d - c
-  room4 w1 w2 w3 = mid-len c d s3 (no-more (sym (long3 w1 w2 w3)))
+  room4 w1 w2 w3 = mid-len c d s3 (le-of-eq (sym (long3 w1 w2 w3)))
 
 -- ---- four numbers
 length-low : (n v : ℕ) → length (lowBytes n v) ≡ n
@@ -88,22 +89,14 @@ unfolding valueBytes
 values-are h v1 v2 v3 l e1 e2 e3 e = e ∙ rw (e1, e2, e3)
 
 -- ---- the parts of an image
-pub length-kinds : (h : Head) (len : ℕ) → length (kindBytes h len) ≡ 16
+pub length-kinds : (h : Head) (len : ℕ) → length (kindBytes h len) ≡ lineSize
 unfolding kindBytes
 length-kinds h len = refl
 
-pub length-counts : (h : Head) → length (countBytes h) ≡ 16
+pub length-counts : (h : Head) → length (countBytes h) ≡ lineSize
 unfolding countBytes
 length-counts h = refl
 
-pub length-values : (h : Head) → length (valueBytes h) ≡ 32
+pub length-values : (h : Head) → length (valueBytes h) ≡ 2 * lineSize
 unfolding valueBytes
 length-values h = refl
-
--- bytes that are copied over a part of their length
-pub copied : (from old ys : List ℕ) → length from ≡ length old → ys ≡ take (length from) from ++ drop (length from) old → ys ≡ from
-copied from old ys h e =
-    e
-    ∙ ap (λ (z : List ℕ). z ++ drop (length from) old) (take-all (length from) from (no-more refl))
-    ∙ ap (λ (z : List ℕ). from ++ z) (drop-of-length-le old (no-more (sym h)))
-    ∙ append-nil from

@@ -1,4 +1,3 @@
-pub mod Slices
 pub mod Listing
 pub mod Heading
 pub mod Rooms

@@ -4,19 +4,19 @@ use Prim.Native.Nat.{ℕ, zero, suc, _+_, _*_, _-_, _<_, _≤_}
 use mathlib.Core.List.{List, [], _∷_, _++_, append-assoc}
 use mathlib.Core.Path.{_≡_, refl, sym, ap, _∙_}
 use native.Mathlib.Omega.{arith}
-use borrow.Rule.Slice.PartMut.{midOf, putMid, mid-len, same-len-mid}
+use borrow.Rule.Slice.PartMut.{midOf, putMid}
 use lib.ListN.{length, take, drop, getD, replicate, length-append, replicate-append-replicate}
 use lib.Seq.{drop-drop}
 use Rattle.laws.proofs.Turns.{past, turn}
+use Rattle.laws.proofs.Parts.{part-length, part-turn}
 use Rattle.kinds.specs.declared.Reader.{Reader}
 use Rattle.kinds.specs.Limits.{lineSize}
 use Rattle.readers.specs.Listed.{blankReader}
 use Rattle.wire.specs.Buffers.{putTo}
 use Rattle.wire.specs.Bytes.{lineWith}
-use Rattle.wire.proofs.Buffers.{put-whole}
+use Rattle.wire.proofs.Buffers.{put-part}
 use Rattle.wire.proofs.Stores.{length-line-with}
 use Rattle.encoding.specs.Images.{entryOf, firstEntry, entries}
-use Rattle.encoding.proofs.Slices.{before-end}
 
 -- ---- lengths
 pub length-first : (l : List Reader) → length (firstEntry l) ≡ lineSize
@@ -97,23 +97,23 @@ no-lines l = refl
 -- the line that is put at its place is the first of those still to come
 module _ (l : List Reader) (out ys : List ℕ) (n i at : ℕ) (more : i < n) (here : at ≡ lineSize * i) (room : length out ≡ lineSize * n)
     (put : ys ≡ putTo (firstEntry (drop i l)) (midOf at (at + lineSize - at) out)) where
+  abbrev next : ℕ
+  next = at + lineSize
+
   abbrev new : List ℕ
-  new = putMid at (at + lineSize - at) out ys
+  new = putMid at (next - at) out ys
 
-  width : at + lineSize - at ≡ lineSize
-  width = omega arith
-
-  mid : length (midOf at (at + lineSize - at) out) ≡ lineSize
-  mid = mid-len at (at + lineSize) out (omega arith) ∙ width
+  inside : next ≤ length out
+  inside = omega arith
 
   line-is : ys ≡ firstEntry (drop i l)
-  line-is = put ∙ put-whole (firstEntry (drop i l)) (midOf at (at + lineSize - at) out) mid
+  line-is = put ∙ put-part (firstEntry (drop i l)) out at inside
 
-  wide : length ys ≡ lineSize
-  wide = ap length line-is ∙ length-first (drop i l)
+  wide : length ys ≡ next - at
+  wide = let e = ap length line-is ∙ length-first (drop i l) in omega arith
 
   pub put-length : length new ≡ lineSize * n
-  put-length = same-len-mid at (at + lineSize - at) out ys (wide ∙ sym mid) ∙ room
+  put-length = part-length at next out ys inside wide ∙ room
 
   pub line-turn : take (lineSize * i) out ++ entries (n - i) (drop i l)
       ≡ take (lineSize * (i + 1)) new ++ entries (n - (i + 1)) (drop (i + 1) l)
@@ -125,12 +125,8 @@ module _ (l : List Reader) (out ys : List ℕ) (n i at : ℕ) (more : i < n) (he
       ∙ next-line (n - (i + 1)) (drop i l)
       ∙ ap (λ (s : List Reader). firstEntry (drop i l) ++ entries (n - (i + 1)) s) (drop-drop 1 i l)
       ∙ ap (λ (z : List ℕ). z ++ rest) (sym line-is) in
-      let next : lineSize * (i + 1) ≡ at + lineSize = omega arith in
-      let before : take (lineSize * (i + 1)) new ≡ take at out ++ ys =
-      ap (λ (m : ℕ). take m new) next
-      ∙ ap (λ (w : ℕ). take (at + lineSize) (putMid at w out ys)) width
-      ∙ before-end out ys at lineSize (omega arith) wide in
+      let end : next ≡ lineSize * (i + 1) = omega arith in
       ap (λ (m : ℕ). take m out ++ entries (n - i) (drop i l)) (sym here)
       ∙ ap (λ (z : List ℕ). take at out ++ z) lines
-      ∙ sym (append-assoc (take at out) ys rest)
-      ∙ ap (λ (z : List ℕ). z ++ rest) (sym before)
+      ∙ part-turn at next out ys inside wide (omega arith) rest
+      ∙ ap (λ (m : ℕ). take m new ++ rest) end

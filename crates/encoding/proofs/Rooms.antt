@@ -1,7 +1,7 @@
 -- How long an image is, what a buffer holds that it is put into, and what more room adds to it: it begins with the image of less room
 -- (`image-first`), and where that has room for all the readers zeros follow (`image-longer`). Assumes nothing.
 use Prim.Native.Nat.{ℕ, _+_, _*_, _-_, _<_, _≤_}
-use mathlib.Core.List.{List, _++_, append-assoc, append-nil}
+use mathlib.Core.List.{List, _++_, append-assoc}
 use mathlib.Core.Path.{_≡_, sym, ap, _∙_}
 use native.Mathlib.Omega.{arith}
 use borrow.Author.Tests.{le-leb, lt-leb}
@@ -12,6 +12,7 @@ use Rattle.kinds.specs.Limits.{lineSize, capacity}
 use Rattle.readers.specs.Listed.{live}
 use Rattle.page_record.specs.declared.Page.{Page}
 use Rattle.page_record.specs.Pages.{headOf}
+use Rattle.wire.proofs.Buffers.{leaves-whole}
 use Rattle.encoding.specs.Images.{imageSize, wholeSize, kindBytes, countBytes, valueBytes, entries, imageOf, imagedIn}
 use Rattle.encoding.proofs.Heading.{length-kinds, length-counts, length-values}
 use Rattle.encoding.proofs.Listing.{length-entries, entries-split, entries-none}
@@ -43,10 +44,7 @@ module _ (p : Page) (l : List ℕ) where
 
 -- one that it fills
 pub imaged-all : (p : Page) (l : List ℕ) → length l ≡ wholeSize → imagedIn p l ≡ imageOf capacity p
-imaged-all p l h =
-    sym (imaged-whole p l (omega arith))
-    ∙ ap (λ (z : List ℕ). imageOf capacity p ++ z) (drop-of-length-le l {i = wholeSize} (omega arith))
-    ∙ append-nil (imageOf capacity p)
+imaged-all p l h = sym (imaged-whole p l (omega arith)) ∙ leaves-whole wholeSize (imageOf capacity p) l h
 
 -- ---- what more room adds
 -- the entries of those that there was no room for

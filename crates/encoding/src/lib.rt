@@ -39,21 +39,21 @@ pub use places::READERS;
 pub use places::SHORT_IMAGE;
 pub use places::STORAGE_VALUE;
 pub use places::STORED;
-pub use places::VALUE;
 pub use places::VISITED;
 pub use places::WRITEBACK;
 pub use places::WRITEBACK_VALUE;
 pub use places::YES;
+use places::ZEROS;
 use readers::Readers;
 
-// Where the second and the third of the values begin, the zeros after them, and where these end.
-const SECOND: usize = 8;
+// Among the values: where the second and the third begin, the zeros after them, and where these end.
+const SECOND: usize = EXC_VALUE - STORAGE_VALUE;
 
-const THIRD: usize = 16;
+const THIRD: usize = WRITEBACK_VALUE - STORAGE_VALUE;
 
-const ZEROS: usize = 24;
+const LAST: usize = ZEROS - STORAGE_VALUE;
 
-const VALUES: usize = 32;
+const VALUES: usize = READERS - STORAGE_VALUE;
 
 // The values of storage, the exclusive holder and the writeback, and zeros.
 fn put_values(head: Head, out: &mut [u8])
@@ -65,8 +65,8 @@ fn put_values(head: Head, out: &mut [u8])
     let writeback = head.writeback_state;
     wire::write_u64(&mut out[0..SECOND], value_of(storage));
     wire::write_u64(&mut out[SECOND..THIRD], exc_value(exc));
-    wire::write_u64(&mut out[THIRD..ZEROS], writeback_value(writeback));
-    wire::write_u64(&mut out[ZEROS..VALUES], 0);
+    wire::write_u64(&mut out[THIRD..LAST], writeback_value(writeback));
+    wire::write_u64(&mut out[LAST..VALUES], 0);
 }
 
 // The entry at a place: that of the reader who is listed there, or zeros.

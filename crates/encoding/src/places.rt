@@ -31,6 +31,8 @@ pub const EXC_VALUE: usize = 40;
 
 pub const WRITEBACK_VALUE: usize = 48;
 
+pub const ZEROS: usize = 56;
+
 pub const READERS: usize = 64;
 
 // How long an image is.
@@ -39,12 +41,10 @@ pub const IMAGE: usize = READERS + LINE * CAPACITY;
 // How long a short one is.
 pub const SHORT_IMAGE: usize = READERS + LINE * SHORT_CAPACITY;
 
-// In an entry of the list.
+// In an entry of the list. Its value is where a line's is (`wire::VALUE`).
 pub const PHASE: usize = 0;
 
 pub const BUCKET: usize = 1;
-
-pub const VALUE: usize = 8;
 
 // A byte that says yes.
 pub const YES: u8 = 1;

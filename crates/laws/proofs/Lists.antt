@@ -136,6 +136,15 @@ module _ {A : Type 0} where
     every-replicate zero x t = tt
     every-replicate (suc n) x t = both (test x) (every test (replicate n x)) t (every-replicate n x t)
 
+    -- entries that all pass a test which x alone passes are copies of x
+    pub every-only : (x : A) → ((y : A) → T (test y) → y ≡ x) → (l : List A) → T (every test l) → l ≡ replicate (length l) x
+    every-only x only [] t = refl
+    every-only x only (y ∷ l) t =
+        let h = halves (test y) (every test l) t in
+        let e = only y (h .0) in
+        let f = every-only x only l (h .1) in
+        cc
+
   -- two tests: one that follows from the other, and both at once
   module _ (f g : A → Bool) where
     pub every-mono : (l : List A) → ((x : A) → T (f x) → T (g x)) → T (every f l) → T (every g l)

@@ -6,12 +6,11 @@ use mathlib.Core.Bool.{true}
 use mathlib.Core.List.{List, [], _∷_, _++_}
 use native.Mathlib.Omega.{arith}
 use native.Mathlib.Nat.{pow-succ'}
-use borrow.Author.Tests.{eqb-true}
-use lib.Dec.{eqb}
+use lib.Dec.{eqb, eqb→eq}
 use lib.ListN.{length, take, drop, set, replicate}
 use lib.Seq.{getD-drop}
-use Rattle.laws.proofs.Tests.{parts-true}
-use Rattle.laws.proofs.Lists.{each-take}
+use Rattle.laws.proofs.Tests.{is-true}
+use Rattle.laws.proofs.Lists.{every-only, each-take}
 use Rattle.laws.proofs.Turns.{store-next}
 use Rattle.wire.specs.Bytes.{Bytes, number, lowBytes, blank}
 
@@ -24,12 +23,7 @@ bytes-drop n l b i = rw getD-drop (b (n + i))
 
 -- bytes that are all zero are so many zeros
 pub zeros-are : (l : List ℕ) → blank l ≡ true → l ≡ replicate (length l) 0
-zeros-are [] e = refl
-zeros-are (b ∷ bs) e =
-    let t = parts-true (eqb b 0) (blank bs) e in
-    let z = eqb-true b 0 (t .0) in
-    let r = zeros-are bs (t .1) in
-    cc
+zeros-are l e = every-only (λ b. eqb b 0) 0 (λ b. eqb→eq b 0) l (is-true e)
 
 -- ---- the size of a number
 above : (n : ℕ) → 0 < 256 ^ n

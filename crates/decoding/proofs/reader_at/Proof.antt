@@ -5,7 +5,7 @@ use native.Mathlib.Omega.{arith}
 use borrow.Author.Needs.{needs}
 use lib.ListN.{length}
 use Rattle.decoding.specs.Decoding.{readerFrom}
-use Rattle.encoding.proofs.Slices.{rest-is}
+use Rattle.laws.proofs.Parts.{rest-is}
 use Rattle.decoding.proofs.Decoded.{missing}
 use Rattle.decoding.proofs.reader_at.Statement.{statement}
 use Rattle.decoding.proofs.reader_at.Tie as tie

@@ -8,7 +8,7 @@ use borrow.Author.Needs.{needs}
 use lib.ListN.{length, take, drop-of-length-le}
 use Rattle.wire.specs.Bytes.{number}
 use Rattle.decoding.specs.Decoding.{u64At}
-use Rattle.encoding.proofs.Slices.{rest-is}
+use Rattle.laws.proofs.Parts.{rest-is}
 use Rattle.decoding.proofs.u64_at.Statement.{statement}
 use Rattle.decoding.proofs.u64_at.Tie as tie
 

@@ -2,17 +2,18 @@
 use Prim.Native.Nat.{ℕ, _*_, _-_}
 use mathlib.Core.List.{List, [], _++_}
 use mathlib.Core.Path.{_≡_, sym, ap, _∙_}
+use native.Mathlib.Nat.{le-of-eq}
 use native.Mathlib.Omega.{arith}
 use borrow.Author.Needs.{needs}
 use borrow.Rule.Slice.PartMut.{midOf, putMid}
 use lib.ListN.{length}
+use Rattle.laws.proofs.Parts.{copied-all, four-parts}
 use Rattle.kinds.specs.Limits.{lineSize, capacity}
 use Rattle.readers.specs.Listed.{live}
 use Rattle.page_record.specs.declared.{Head.Head, Page.Page}
 use Rattle.page_record.specs.Pages.{headOf}
 use Rattle.encoding.specs.Images.{kindBytes, countBytes, valueBytes, entries, wholeSize, imageOf}
-use Rattle.encoding.proofs.Heading.{room1, room2, room3, room4, length-kinds, length-counts, length-values, copied}
-use Rattle.encoding.proofs.Slices.{no-more, four-parts}
+use Rattle.encoding.proofs.Heading.{room1, room2, room3, room4, length-kinds, length-counts, length-values}
 use Rattle.encoding.proofs.Listing.{length-entries}
 use Rattle.encoding.proofs.put_image.Statement.{statement}
 use Rattle.encoding.proofs.put_image.Tie as tie
@@ -37,7 +38,7 @@ fit1 c =
     ∙ sym (room1 (old c) [] [] [] 16 32 64 wholeSize (omega arith) (omega arith) (omega arith) (start c .pre))
 
 put1 : (c : tie.After-copy) → c .copy .last .1 .0 ≡ kinds (c .before)
-put1 c = copied (kinds (c .before)) (midOf 0 16 (old (c .before))) (c .copy .last .1 .0) (fit1 (c .before)) (c .copy .ensures .1)
+put1 c = copied-all (kinds (c .before)) (midOf 0 16 (old (c .before))) (c .copy .last .1 .0) (c .copy .ensures .1) (fit1 (c .before))
 
 wide1 : (c : tie.After-copy) → length (c .copy .last .1 .0) ≡ 16
 wide1 c = ap length (put1 c ∙ c .before .before .before .before .kind-bytes .ensures) ∙ length-kinds _ _
@@ -58,8 +59,8 @@ fit2 c =
 
 put2 : (c : tie.After-copy2) → c .copy2 .last .1 .0 ≡ counts (first (c .before) .before)
 put2 c =
-    copied (counts (first (c .before) .before)) (midOf 16 16 (after1 (first (c .before)))) (c .copy2 .last .1 .0) (fit2 (c .before))
-    (c .copy2 .ensures .1)
+    copied-all (counts (first (c .before) .before)) (midOf 16 16 (after1 (first (c .before)))) (c .copy2 .last .1 .0) (c .copy2 .ensures .1)
+    (fit2 (c .before))
 
 wide2 : (c : tie.After-copy2) → length (c .copy2 .last .1 .0) ≡ 16
 wide2 c = ap length (put2 c ∙ first (c .before) .before .before .before .count-bytes .ensures) ∙ length-counts _
@@ -107,12 +108,12 @@ put-image-spec =
     (λ c. search needs)
     (λ c. search needs)
     (λ c. search needs)
-    (λ c κs. no-more (fit1 c))
+    (λ c κs. le-of-eq (fit1 c))
     (λ c. search needs)
     (λ c. search needs)
     (λ c. search needs)
     (λ c. search needs)
-    (λ c κs. no-more (fit2 c))
+    (λ c κs. le-of-eq (fit2 c))
     (λ c. search needs)
     (λ c. search needs)
     (λ c. search needs)
