@@ -169,7 +169,7 @@ module _ (start : Start) (h : Head) (l : List Reader) (b : Bucket) (clean value 
       let leaves = to-false (among leaving n) (u .0 .0 .1) in
       let done = to-false (among (17 ∷ []) n) (u .0 .1) in
       let gives = to-false (among givingBack n) (u .1) in
-      λ w. recounts n w λ x. rw (raises, leaves, done, gives) (same x)
+      λ w. recounts n w λ x. simp (raises, leaves, done, gives) (same x)
 
   -- a step that puts the value in, and leaves the loader: no exclusive holder has the page out after it
   puts : (n : ℕ) {cs : List Count} {e : ExcState} → T (putsOnly n)
@@ -329,7 +329,7 @@ module _ (start : Start) (h : Head) (l : List Reader) (b : Bucket) (clean value 
       let there : T (not (noLoad (h .«loading_state»))) = rw (is-loading (h .«loading_state») (t .0)) tt in
       record {
         balance = λ x.
-            rw (told .since there, loader-named m (lastCounted start past) x (told .counted))
+            simp (told .since there, loader-named m (lastCounted start past) x (told .counted))
             (omega (arith, left-balance m v (λ b k. omega (arith, s .counts b k)) x));
         stored = refl;
         counted = λ w. absurd w;
