@@ -2,7 +2,7 @@
 -- phase is more (`phase-le`); so for a sound page each row of the census sums to the shared references at its bucket
 -- (`census-sums`), which the ceiling keeps few (`listed-few`), and for one that is not sound every entry is 0
 -- (`census-zeros`). Assumes nothing.
-use Prim.Native.Nat.{ℕ, zero, suc, _+_, _≤_, _<_}
+use Prim.Native.Nat.{ℕ, _+_, _≤_, _<_}
 use mathlib.Core.Path.{_≡_, refl}
 use mathlib.Core.Bool.{Bool, true, false, cond, _&&_}
 use mathlib.Core.List.{List, [], _∷_}
@@ -11,6 +11,7 @@ use lib.Dec.{T, eqb}
 use lib.ListN.{getD, replicate}
 use Rattle.laws.proofs.Lists.{one-le}
 use Rattle.laws.proofs.Tests.{to-true}
+use Rattle.laws.proofs.Pick.{_&_, pick}
 use Rattle.kinds.specs.declared.{Phase.Phase, Reader.Reader}
 use Rattle.kinds.specs.Limits.{buckets, ceiling}
 use Rattle.kinds.specs.Numbers.{phaseNumber}
@@ -54,15 +55,10 @@ module _ (p : Page) where
 
   pub census-row : T (soundOf p) → (b : ℕ) → b < buckets → getD (censusOf p) b [] ≡ censusRow (live (p .readers)) b
   unfolding censusOf
-  census-row s b h = simp (to-true (soundOf p) s) (at b h)
-    where
-      at : (b : ℕ) → b < buckets
-          → getD (cond true (censusRows (live (p .readers))) (censusRows [])) b [] ≡ censusRow (live (p .readers)) b
-      at zero h = refl
-      at (suc zero) h = refl
-      at (suc (suc zero)) h = refl
-      at (suc (suc (suc zero))) h = refl
-      at (suc (suc (suc (suc b)))) h = absurd (omega arith)
+  census-row s b h =
+      let l = live (p .readers) in
+      simp (to-true (soundOf p) s)
+      (pick buckets (λ b. getD (censusRows l) b [] ≡ censusRow l b) (refl & refl & refl & refl & tt) b h)
 
   pub census-sums : T (soundOf p) → (b : ℕ) → b < buckets
       → numberAt (getD (censusOf p) b []) 0 + numberAt (getD (censusOf p) b []) 1 + numberAt (getD (censusOf p) b []) 2

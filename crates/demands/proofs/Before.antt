@@ -11,14 +11,36 @@ use Rattle.kinds.specs.declared.{MaybeBucket.MaybeBucket, ExcState.ExcState, Lo
 use Rattle.page_record.specs.declared.Page.{Page}
 use Rattle.page_record.specs.Holders.{isStored, excValue, hasBucket, excBucket, loadingBucket, noLoad, isEditing}
 use Rattle.page_record.specs.Pages.{headOf}
+use Rattle.page_record.specs.References.{refAt}
 use Rattle.rules.specs.Rules.{withdrawn}
 use Rattle.soundness.specs.Soundness.{soundOf}
 use Rattle.soundness.proofs.Shapes.{rules-of}
 use Rattle.soundness.proofs.Tested.{facts}
 use Rattle.lock.proofs.Exact.Granted.{granted}
 use Rattle.demands.specs.History.{Event, Start, putBefore, lastCounted, countedSince, departures, lastPut}
-use Rattle.demands.specs.History.{lastTaken, lastWithdrew, editorNamed}
+use Rattle.demands.specs.History.{lastTaken, lastWithdrew, editorNamed, arrivals}
 use Rattle.demands.specs.Before.{plainly, named, loaderCame, editorCame, before, bareStart, AsIf}
+
+-- ---- what reads as an arrival
+no-arrivals : (e : ExcState) (b : ℕ) → arrivals b (editorCame e) ≡ 0
+no-arrivals ExcState.None b = refl
+no-arrivals (ExcState.Claim MaybeBucket.None w) b = refl
+no-arrivals (ExcState.Claim (MaybeBucket.At x) w) b = refl
+no-arrivals (ExcState.PendingAwaitWriteback MaybeBucket.None w) b = refl
+no-arrivals (ExcState.PendingAwaitWriteback (MaybeBucket.At x) w) b = refl
+no-arrivals (ExcState.Pending MaybeBucket.None n c w) b = refl
+no-arrivals (ExcState.Pending (MaybeBucket.At x) n c w) b = refl
+no-arrivals (ExcState.Obtained MaybeBucket.None c w) b = refl
+no-arrivals (ExcState.Obtained (MaybeBucket.At x) c w) b = refl
+
+loader-arrived : (l : LoadingState) (past : List Event) (b : ℕ) → arrivals b past ≡ 0
+    → arrivals b (loaderCame l ++ past) ≡ refAt (loadingBucket l) b
+loader-arrived LoadingState.None past b none = none
+loader-arrived LoadingState.Pending past b none = omega arith
+loader-arrived (LoadingState.PendingCounted MaybeBucket.None) past b none = omega arith
+loader-arrived (LoadingState.PendingCounted (MaybeBucket.At x)) past b none = omega arith
+loader-arrived (LoadingState.Obtained MaybeBucket.None) past b none = omega arith
+loader-arrived (LoadingState.Obtained (MaybeBucket.At x)) past b none = omega arith
 
 -- ---- what the words say of some requests
 record Said (s : Start) (past : List Event) (last : MaybeBucket) (since : Bool) (editor : MaybeBucket) (value took : ℕ) (out : Bool)
@@ -126,6 +148,7 @@ module _ (p : Page) (sound : T (soundOf p)) where
     put = sym (begun .put);
     taken = sym (begun .taken ∙ took-is);
     withdrew = sym (begun .withdrew ∙ out-is);
+    arrived = λ b. loader-arrived (p .«loading_state») (editorCame (p .«exc_state»)) b (no-arrivals (p .«exc_state») b);
   }
   as-if-before (e ∷ past) =
       let t = as-if-before past in
@@ -137,4 +160,5 @@ module _ (p : Page) (sound : T (soundOf p)) where
         put = rw (t .put);
         taken = rw (t .taken);
         withdrew = rw (t .withdrew);
+        arrived = t .arrived;
       }

@@ -4,7 +4,7 @@ use mathlib.Core.Path.{_≡_, refl}
 use mathlib.Core.Bool.{_&&_}
 use mathlib.Core.List.{[], _∷_, _++_}
 use lib.Dec.{T}
-use lib.ListN.{take, replicate}
+use lib.ListN.{take, drop, replicate}
 use Rattle.kinds.specs.declared.Flag.{Flag}
 use Rattle.readers.specs.Listed.{noReaders, pushed, putAt, removedAt}
 use Rattle.page_record.specs.Pages.{freshPage}
@@ -22,7 +22,7 @@ use Rattle.pieces.specs.Carries.{carryOf, isValid, finishOf}
 use Rattle.pieces.specs.Pieces.{pieceVerdict, takenOf, bufferAfter}
 use Rattle.demands.specs.Cases.{allHold, workedCases, caseB, caseK, caseL, departs, requestsA, answersA}
 use Rattle.demands.specs.Cases.{flagIs, storedIs, isOut}
-use Rattle.demands.specs.Pieces.{linesJoined, begun, cutA, raggedA, freshLeft}
+use Rattle.demands.specs.Pieces.{linesJoined, begun, taken, pieceWith, cutA, raggedA, freshLeft}
 
 -- cases A to H and K to O
 pub worked : T (allHold workedCases)
@@ -49,14 +49,16 @@ worked-bytes = refl
 -- and in pieces: cut after 20 bytes, where 4 are carried, and then nothing, with the record of case A; and after 20 and 25, where 9 bytes
 -- are left at the end, and the record that the first request gave stays
 pub worked-pieces : (linesJoined (begun (freshPage 0)) cutA ≡ answersA)
+    × (taken (begun (freshPage 0)) (pieceWith (take 20 requestsA) 1) .lines ≡ 1)
     × (freshLeft (take 1 cutA) .carry ≡ record { bytes = 17 ∷ replicate 14 0; len = 4 })
     × (freshLeft cutA .carry ≡ record { bytes = replicate 15 0; len = 0 })
     × (finishOf (freshLeft cutA .carry) ≡ Answer.Accepted)
     × T (flagIs Flag.Available (freshLeft cutA .page) && storedIs 5 (freshLeft cutA .page))
     × (linesJoined (begun (freshPage 0)) raggedA ≡ 0 ∷ 1 ∷ replicate 14 0)
+    × (taken (freshLeft (take 1 raggedA)) (pieceWith (take 5 (drop 20 requestsA)) 0) .lines ≡ 0)
     × (freshLeft raggedA .carry ≡ record { bytes = 17 ∷ replicate 7 0 ++ 5 ∷ replicate 6 0; len = 9 })
     × (finishOf (freshLeft raggedA .carry) ≡ Answer.Refused Refusal.NotWhole)
     × T (flagIs Flag.Loading (freshLeft raggedA .page) && isOut (freshLeft raggedA .page))
 unfolding stepOf lookFor editedIn judged decideOf soughtOf soundOf lowestBroken noReaders pushed putAt removedAt freshPage
     takenOf bufferAfter pieceVerdict isValid carryOf finishOf turnOf readOf lineOf lineWith
-worked-pieces = (refl, refl, refl, refl, tt, refl, refl, refl, tt)
+worked-pieces = (refl, refl, refl, refl, refl, tt, refl, refl, refl, refl, tt)

@@ -1,16 +1,15 @@
--- Clean means clean, proved of requests (`clean-requests`) and of the lines of runs (`clean-lines`, `as-lines`). An accepted request has
+-- Clean means clean, proved of requests (`clean-requests`) and of the lines of runs (`clean-lines`). An accepted request has
 -- passed its step's premises (`ran`). Beside an editor that has the page out, one table over the steps says what each does (`beside`):
 -- 9, 10, 29 and 30 put in what may be put in, and any other leaves the editor there, as clean as it was and with the value that it
--- keeps. Whatever is asked is a request that is stepped, or is refused (`Acted`), so that the editor keeps on (`keeps-on`) until one of
+-- keeps. Whatever is asked is a request that is stepped, or is refused (`Acted`, Asked.antt), so that the editor keeps on (`keeps-on`) until one of
 -- the four puts in what was kept (`gives-kept`). Assumes nothing.
 use Prim.Native.Nat.{ℕ, zero, suc}
 use mathlib.Core.Path.{_≡_, refl, sym, ap, _∙_}
-use mathlib.Core.Logic.{_⊎_, inl, inr}
+use mathlib.Core.Logic.{inl, inr}
 use mathlib.Core.Bool.{Bool, true, false, not, _||_}
-use mathlib.Core.List.{List, [], _∷_, _++_}
+use mathlib.Core.List.{List, [], _∷_}
 use native.Mathlib.Omega.{arith}
 use lib.Dec.{T, eqb, leb, eqb→eq}
-use lib.ListN.{length}
 use Rattle.laws.specs.Lists.{among}
 use Rattle.laws.proofs.Tests.{to-true, halves}
 use Rattle.laws.proofs.Pick.{Below, _&_, pick}
@@ -39,21 +38,13 @@ use Rattle.editing.specs.Steps.{withdrawTakeExcLockFinish}
 use Rattle.steps.specs.Decide.{stepAt, soughtOf, decideOf}
 use Rattle.lock.specs.Words.{puttingBack}
 use Rattle.lock.specs.Step.{lookFor, stepOf}
-use Rattle.lock.specs.declared.Outcome.{Outcome}
 use Rattle.lock.proofs.Exact.Granted.{granted}
 use Rattle.lock.proofs.Keeps.{refused-keeps-all}
-use Rattle.wire.specs.declared.Reading.{Reading}
-use Rattle.wire.specs.Requests.{readOf}
-use Rattle.wire.proofs.Trips as Trips
-use Rattle.replay.specs.Turns.{turnOf}
-use Rattle.replay.specs.Run.{requestsOf, pageAfter, runVerdict, ends, ranOf}
-use Rattle.replay.proofs.Pages.{turn-read, turn-refused}
-use Rattle.image.specs.Decoding.{u64At, excFromBytes, headFrom, pageFrom}
+use Rattle.decoding.specs.Decoding.{u64At, excFromBytes, headFrom, pageFrom}
 use Rattle.image.specs.Keeping.{readVerdict, restoredAs, restoredFrom}
-use Rattle.demands.specs.History.{Event, event, after, lineEvent, runHistory, Given, added, accepted}
-use Rattle.demands.specs.Clean.{Asking, requests, lines, left, NoneBack, FirstBack, CleanMeansClean, CleanFirst, Clean, linesIn}
-use Rattle.demands.specs.Clean.{allLines, AsLines}
-use Rattle.demands.proofs.Lines.{history-append}
+use Rattle.demands.specs.History.{Event, event, Asking, left, byRequest, byLine, accepted}
+use Rattle.demands.specs.Clean.{NoneBack, FirstBack, CleanMeansClean, CleanFirst, Clean}
+use Rattle.demands.proofs.Asked.{Acted, Acts, request-acts, line-acts}
 
 -- ---- what is accepted
 module _ (p : Page) (q : Request) where
@@ -212,14 +203,8 @@ took p q t =
           kept = r .editor ∙ ap (λ (x : Step). x .head .«exc_state») st;
         }
 
--- ---- whatever is asked
--- it is refused and leaves the page, or it is a request that is stepped
-abbrev Acted : Page → Page → Event → Type 0
-Acted p p′ e =
-    ((why : Refusal) × (e .answer ≡ Answer.Refused why) × (p′ ≡ p))
-    ⊎ ((q : Request) × (e ≡ event p q) × (p′ ≡ stepOf p q .page))
-
--- an editor that was read as Obtained was read with the value at its place
+-- ---- an editor that was read
+-- one that was read as Obtained was read with the value at its place
 value-read : (n : ℕ) (m : MaybeBucket) (x : Visited) (c : Bool) (v : ℕ) → T (isEditing (excFrom n m x c v))
     → excValue (excFrom n m x c v) ≡ v
 unfolding excFrom
@@ -241,12 +226,13 @@ kept-read l = go (readVerdict (pageFrom l) l)
     go Verdict.Passed t = value-read _ _ _ _ (u64At 40 l) t
     go (Verdict.Failed why) t = absurd t
 
+-- ---- whatever is asked
 -- a clean editor that has the page out keeps its value
 is-keeping : (e : ExcState) → T (isEditing e) → T (excClean e) → Keeping true (excValue e) e
 is-keeping e editing clean =
     (excBucket e, is-editing e editing ∙ ap (λ (c : Bool). ExcState.Obtained (excBucket e) c (excValue e)) (to-true (excClean e) clean))
 
-module _ (way : Asking) (acts : (p : Page) (a : way .Ask) → Acted p (way .page p a) (way .event p a)) where
+module _ (way : Asking) (acts : Acts way) where
   module _ (p : Page) (a : way .Ask) where
     -- what is accepted is stepped
     stepped : (steps : List ℕ) → T (accepted steps (way .event p a))
@@ -315,65 +301,8 @@ module _ (way : Asking) (acts : (p : Page) (a : way .Ask) → Acted p (way .page
   }
 
 -- ---- the two ways to ask
-pub clean-requests : Clean requests
-clean-requests = proved requests λ p q. inr (q, refl, refl)
+pub clean-requests : Clean byRequest
+clean-requests = proved byRequest request-acts
 
-line-acts : (p : Page) (bytes : List ℕ) → Acted p (turnOf p bytes .page) (lineEvent p bytes)
-line-acts p bytes = go (readOf bytes) refl
-  where
-    go : (r : Reading) → readOf bytes ≡ r → Acted p (turnOf p bytes .page) (lineEvent p bytes)
-    go (Reading.Request q) e =
-        let turn = turn-read p bytes q e in
-        let fields = Trips.accepted bytes q e .fields in
-        inr (q, (λ i. record { request = fields i; answer = turn i .answer }), ap (λ (o : Outcome). o .page) turn)
-    go (Reading.Refused why) e =
-        let turn = turn-refused p bytes why e in
-        inl (why, ap (λ (o : Outcome). o .answer) turn, ap (λ (o : Outcome). o .page) turn)
-
-pub clean-lines : Clean lines
-clean-lines = proved lines line-acts
-
--- ---- requests, and runs, are what a history has of them
-pub left-after : (p : Page) (qs : List Request) → left requests p qs ≡ after p qs
-left-after p [] = refl
-left-after p (q ∷ qs) = left-after (stepOf p q .page) qs
-
-after-left : (p : Page) (rs : List (List ℕ)) → pageAfter p rs ≡ left lines p rs
-after-left p [] = refl
-after-left p (r ∷ rs) = after-left (turnOf p r .page) rs
-
--- a run's page and history are those of its lines, and lines may be cut anywhere
-run-page : (p : Page) (requests : List ℕ) (v : Verdict) → ends p requests v .page ≡ left lines p (linesIn requests v)
-run-page p requests Verdict.Passed = after-left p (requestsOf requests)
-run-page p requests (Verdict.Failed why) = refl
-
-run-added : (p : Page) (requests : List ℕ) (past : List Event) (v : Verdict)
-    → added p requests past v ≡ runHistory p (linesIn requests v) past
-run-added p requests past Verdict.Passed = refl
-run-added p requests past (Verdict.Failed why) = refl
-
-left-append : (p : Page) (xs ys : List (List ℕ)) → left lines p (xs ++ ys) ≡ left lines (left lines p xs) ys
-left-append p [] ys = refl
-left-append p (x ∷ xs) ys = left-append (turnOf p x .page) xs ys
-
-pub as-lines : (p : Page) (gs : List Given) → AsLines p gs
-unfolding ranOf
-as-lines p [] = record { page = refl; history = λ past. refl }
-as-lines p (g ∷ gs) =
-    let v = runVerdict p (length (g .requests)) (length (g .answers)) in
-    let now = linesIn (g .requests) v in
-    let next = ends p (g .requests) v .page in
-    let rest = as-lines next gs in
-    let ended = run-page p (g .requests) v in
-    record {
-      page =
-          rest .page
-          ∙ ap (λ (x : Page). left lines x (allLines next gs)) ended
-          ∙ sym (left-append p now (allLines next gs));
-      history = λ past.
-          rest .history (added p (g .requests) past v)
-          ∙ ap (λ (x : Page). runHistory x (allLines next gs) (added p (g .requests) past v)) ended
-          ∙ ap (runHistory (left lines p now) (allLines next gs)) (run-added p (g .requests) past v)
-          ∙ ap (λ (x : Page). runHistory x (allLines next gs) (runHistory p now past)) (sym (after-left p now))
-          ∙ sym (history-append p now (allLines next gs) past);
-    }
+pub clean-lines : Clean byLine
+clean-lines = proved byLine line-acts

@@ -1,6 +1,5 @@
 -- Demand 1, proved: each number is the first of its table that applies, by the theorems of `lock`, `wire` and `replay`, and the
--- tables go up, so it is the lowest (`laws`). That a refused line leaves its page comes from the reader or from the step; the rest
--- is the run's. Assumes nothing.
+-- tables go up, so it is the lowest (`laws`); the rest is the run's. Assumes nothing.
 use Prim.Native.Nat.{ℕ, _*_, _/_, _<_}
 use mathlib.Core.Path.{_≡_, refl, sym, ap, _∙_}
 use mathlib.Core.Logic.{_↔_}
@@ -16,7 +15,7 @@ use Rattle.laws.proofs.Tables.{first-lowest, first-none}
 use Rattle.kinds.specs.Limits.{lineSize}
 use Rattle.page_record.specs.declared.Page.{Page}
 use Rattle.soundness.specs.Soundness.{soundOf}
-use Rattle.requests.specs.declared.{Refusal.Refusal, Answer.Answer, Request.Request}
+use Rattle.requests.specs.declared.{Answer.Answer, Request.Request}
 use Rattle.requests.specs.Answers.{answerNumber, withdraws}
 use Rattle.requests.proofs.Reasons.{refusal-above}
 use Rattle.lock.specs.declared.Outcome.{Outcome}
@@ -31,12 +30,11 @@ use Rattle.wire.proofs.Buffers.{write-past, write-untouched}
 use Rattle.replay.specs.Turns.{turnOf}
 use Rattle.replay.specs.Run.{requestsOf, lineAt, pageAt, ranOf}
 use Rattle.replay.specs.Applies.{applyingRun, applyingLine}
-use Rattle.replay.proofs.Pages.{turn-read, turn-refused, page-next, page-all}
+use Rattle.replay.proofs.Pages.{refused-turn, run-keeps, page-next, page-all}
 use Rattle.replay.proofs.Lines.{line-at, page-end, past-lines}
 use Rattle.replay.proofs.Whole.{accepted-has, refused-untouched}
 use Rattle.replay.proofs.Least.{run-number, run-plain, line-number}
 use Rattle.demands.specs.Demand1.{Demand1, Demand1Read, Demand1Write, Demand1Run}
-use Rattle.demands.proofs.Kept.{run-keeps}
 
 -- ---- one request
 pub demand1 : (p : Page) (q : Request) → Demand1 p q
@@ -62,16 +60,12 @@ accepts-none a cs plain e none = (
   λ f. plain-zero a plain .1 (e ∙ none .1 f),
 )
 
--- what is read is the request of the bytes' fields
-own-fields : (l : List ℕ) (q : Request) → readOf l ≡ Reading.Request q → fieldsOf l ≡ q
-own-fields l q e = accepted l q e .fields
-
 -- a reading of number 0 is a request
 zero-read : (l : List ℕ) → readingNumber (readOf l) ≡ 0 → readOf l ≡ Reading.Request (fieldsOf l)
 zero-read l e = go (readOf l) refl
   where
     go : (r : Reading) → readOf l ≡ r → readOf l ≡ Reading.Request (fieldsOf l)
-    go (Reading.Request q) f = f ∙ ap Reading.Request (sym (own-fields l q f))
+    go (Reading.Request q) f = f ∙ ap Reading.Request (sym (accepted l q f .fields))
     go (Reading.Refused why) f = absurd (omega (arith, sym (ap readingNumber f) ∙ e, refusal-above why))
 
 pub demand1-read : (l : List ℕ) → Demand1Read l
@@ -79,7 +73,7 @@ demand1-read l = record {
   ragged = read-ragged-number l;
   given = λ h n k. rw (read-whole l h) (first-lowest (applyingBytes l) tt n k);
   accepted = (there, λ t. zero-read l (read-whole l (t .0) ∙ first-none (applyingBytes l) tt .1 (t .1)));
-  fields = own-fields l;
+  fields = λ q e. accepted l q e .fields;
 }
   where
     there : readOf l ≡ Reading.Request (fieldsOf l) → (length l ≡ lineSize) × ((n : ℕ) → appliesIn (applyingBytes l) n ≡ false)
@@ -97,17 +91,6 @@ demand1-write q buffer = record {
 }
 
 -- ---- a run
--- a turn that is refused leaves the page, whether the reader or the step refused it
-pub refused-turn : (p : Page) (bytes : List ℕ) (why : Refusal) → turnOf p bytes .answer ≡ Answer.Refused why
-    → turnOf p bytes .page ≡ p
-refused-turn p bytes why refused = go (readOf bytes) refl
-  where
-    go : (r : Reading) → readOf bytes ≡ r → turnOf p bytes .page ≡ p
-    go (Reading.Request q) e =
-        let t = turn-read p bytes q e in
-        ap (λ (o : Outcome). o .page) t ∙ refused-keeps-all p q why (sym (ap (λ (o : Outcome). o .answer) t) ∙ refused)
-    go (Reading.Refused other) e = ap (λ (o : Outcome). o .page) (turn-refused p bytes other e)
-
 length-line-at : (requests : List ℕ) (k : ℕ) → k < length requests / lineSize → length (lineAt k requests) ≡ lineSize
 length-line-at requests k h = length-take-le lineSize (drop (lineSize * k) requests) (simp length-drop (omega arith))
 

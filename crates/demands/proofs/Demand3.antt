@@ -1,8 +1,8 @@
--- Demand 3, proved from any sound page (`demand3-from`): the history tells of counts, storage and the values kept and handed out
--- (proofs/Told.antt); soundness carries storage's value to every holder, and shuts readers and the archive out while the page is
--- out. A fresh page is one to start from (`demand3`), and what it starts with is plain (`fresh-start`, `counted-fresh`). Assumes
--- nothing.
-use Prim.Native.Nat.{ℕ, zero, suc, _+_, _<_}
+-- Demand 3, proved from any sound page, after whatever is asked (`demand3-asked`), requests (`demand3-from`) or lines: the history tells
+-- of counts, storage and the values kept and handed out (proofs/Told.antt, Asked.antt); soundness carries storage's value to every
+-- holder, and shuts readers and the archive out while the page is out. A fresh page is one to start from (`demand3`), and what it
+-- starts with is plain (`fresh-start`, `counted-fresh`). Assumes nothing.
+use Prim.Native.Nat.{ℕ, _+_, _<_}
 use mathlib.Core.Path.{_≡_, refl, ap, _∙_}
 use mathlib.Core.Bool.{Bool, true, false, not, cond, _&&_, _||_}
 use mathlib.Core.List.{List, []}
@@ -10,13 +10,14 @@ use native.Mathlib.Omega.{arith}
 use lib.Dec.{T, eqb}
 use lib.ListN.{replicate}
 use Rattle.laws.proofs.Lists.{every-at}
+use Rattle.laws.proofs.Arms.{copies-at}
 use Rattle.kinds.specs.declared.{Phase.Phase, Reader.Reader, Storage.Storage, WritebackState.WritebackState}
-use Rattle.kinds.specs.declared.{MaybeBucket.MaybeBucket}
+use Rattle.kinds.specs.declared.{MaybeBucket.MaybeBucket, Count.Count}
 use Rattle.kinds.specs.Limits.{buckets}
 use Rattle.kinds.specs.Numbers.{phaseNumber}
 use Rattle.readers.specs.Listed.{live, blankReader}
 use Rattle.page_record.specs.declared.{Head.Head, Page.Page}
-use Rattle.page_record.specs.Holders.{isStored, isPending, isEditing, excVisited, excValue}
+use Rattle.page_record.specs.Holders.{isStored, isPending, isEditing, excVisited, excValue, noLoad}
 use Rattle.page_record.specs.Pages.{headOf, numberAt, freshPage}
 use Rattle.page_record.proofs.Inversions.{is-holding}
 use Rattle.soundness.specs.Soundness.{soundOf}
@@ -25,12 +26,11 @@ use Rattle.soundness.proofs.Known.{known, hold-iff, valid-phase, readerPending,
 use Rattle.soundness.proofs.FreshPage.{fresh-sound}
 use Rattle.soundness.proofs.Tested.{facts}
 use Rattle.requests.specs.declared.Request.{Request}
-use Rattle.demands.specs.History.{Event, Start, startOf, after, history, arrivals, departures, lastPut}
-use Rattle.demands.specs.History.{lastWithdrew, HandOuts}
+use Rattle.demands.specs.History.{Event, Asking, left, happened, byRequest, after, history, Start, startOf, arrivals, departures}
+use Rattle.demands.specs.History.{startWith, lastPut, lastWithdrew, HandOuts}
 use Rattle.demands.specs.Demand3.{Listed, Demand3}
-use Rattle.demands.proofs.Told.{ToldOf, put-in, tells, start-told}
-use Rattle.demands.proofs.HandOuts.{history-hands}
-use Rattle.demands.proofs.Kept.{sound-after}
+use Rattle.demands.proofs.Told.{ToldOf, put-in, start-told, start-unknown}
+use Rattle.demands.proofs.Asked.{Acts, request-acts, follows}
 
 -- ---- what is used of tests
 or-left : (a b : Bool) → T a → T (a || b)
@@ -96,11 +96,24 @@ module _ (start : Start) (p : Page) (past : List Event) (s : Sound (headOf p) (l
     alone = λ t r at. first-is (r .phase) (shut r at t);
   }
 
--- ---- from any sound page, after any requests
+-- ---- from any sound page, after whatever is asked
+module _ (way : Asking) (acts : Acts way) (p : Page) (sound : T (soundOf p)) where
+  started : (start : Start) → ToldOf start (headOf p) [] → (asks : List (way .Ask)) → Demand3 start (left way p asks) (happened way p asks [])
+  started start told asks =
+      let p′ = left way p asks in
+      let t = follows way acts start p [] asks (record { sound = sound; told = told; hands = tt }) in
+      demanded start p′ (happened way p asks []) (facts p′ (t .sound) .parts) (t .told) (t .hands)
+
+  pub demand3-asked : (asks : List (way .Ask)) → Demand3 (startOf p) (left way p asks) (happened way p asks [])
+  demand3-asked = started (startOf p) (start-told p sound)
+
+  -- beside a loader what was put in last is not known: whatever it was, the same holds
+  pub demand3-unknown : T (not (noLoad (p .«loading_state»))) → (v : ℕ) (asks : List (way .Ask))
+      → Demand3 (startWith v p) (left way p asks) (happened way p asks [])
+  demand3-unknown loads v = started (startWith v p) (start-unknown p sound loads v)
+
 pub demand3-from : (p : Page) → T (soundOf p) → (qs : List Request) → Demand3 (startOf p) (after p qs) (history p qs [])
-demand3-from p sound qs =
-    demanded (startOf p) (after p qs) (history p qs []) (facts (after p qs) (sound-after p qs sound) .parts)
-    (tells (startOf p) p [] qs sound (start-told p sound)) (history-hands p qs [] tt)
+demand3-from = demand3-asked byRequest request-acts
 
 -- ---- from a fresh page
 -- nothing has come, this value was put in, the page is in, and nobody loads or edits
@@ -112,11 +125,7 @@ fresh-start v =
     λ i. record { counts = λ b. none b i; value = v; out = false; loader = MaybeBucket.None; editor = MaybeBucket.None }
   where
     none : (b : ℕ) → numberAt (replicate buckets (record { 0 = 0 })) b ≡ 0
-    none zero = refl
-    none (suc zero) = refl
-    none (suc (suc zero)) = refl
-    none (suc (suc (suc zero))) = refl
-    none (suc (suc (suc (suc b)))) = refl
+    none b = ap (λ (c : Count). c .0) (copies-at buckets b (record { 0 = 0 }))
 
 pub demand3 : (v : ℕ) (qs : List Request)
     → Demand3 (startOf (freshPage v)) (after (freshPage v) qs) (history (freshPage v) qs [])

@@ -3,14 +3,14 @@
 use Prim.Native.Nat.{ℕ, _+_, _-_, _≤_}
 use mathlib.Core.Path.{_≡_, refl, subst}
 use mathlib.Core.Bool.{Bool, true, false, not, _&&_}
-use mathlib.Core.List.{[], _∷_}
+use mathlib.Core.List.{List, [], _∷_, map}
 use native.Mathlib.Omega.{arith}
 use lib.Dec.{T}
 use Rattle.laws.specs.Lists.{every, among}
 use Rattle.laws.specs.Tables.{firstApplying}
 use Rattle.laws.proofs.Pick.{Below, _&_, pick}
 use Rattle.kinds.specs.declared.{Bucket.Bucket, ExcState.ExcState}
-use Rattle.kinds.specs.Numbers.{flagFrom, storageFrom, bucketFrom, phaseFrom, excFrom, loadingFrom, writebackFrom}
+use Rattle.kinds.specs.Numbers.{flags, flagFrom, storageFrom, bucketFrom, phaseFrom, excFrom, loadingFrom, writebackFrom}
 use Rattle.readers.specs.Listed.{noReaders, pushed, putAt, removedAt}
 use Rattle.page_record.specs.declared.Page.{Page}
 use Rattle.page_record.specs.Holders.{isClaim, isAwait, isPending, isEditing, excClean}
@@ -25,16 +25,19 @@ use Rattle.lock.specs.Step.{stepOf, lookFor, editedIn}
 use Rattle.lock.specs.Applies.{applies1, applies11, bucketWrong, valueOther, applying}
 use Rattle.lock.proofs.Least.{least-number}
 use Rattle.wire.specs.Bytes.{lineWith}
-use Rattle.image.specs.Images.{kindBytes, countBytes, valueBytes, entries, imageOf}
-use Rattle.image.specs.Decoding.{u64At, excFromBytes, headFrom, readerFrom, readersFrom, pageFrom}
+use Rattle.wire.specs.Requests.{bytesOf, readOf}
+use Rattle.replay.specs.Turns.{turnOf}
+use Rattle.encoding.specs.Images.{kindBytes, countBytes, valueBytes, entries, imageOf, lengthened}
+use Rattle.decoding.specs.Decoding.{u64At, excFromBytes, headFrom, readerFrom, readersFrom, pageFrom}
 use Rattle.image.specs.Keeping.{knownSize, limitsBy, isImage, readVerdict, restoredFrom}
 use Rattle.image.specs.Samples.{editingClean, value}
 use Rattle.replay.specs.Run.{runVerdict}
 use Rattle.pieces.specs.Carries.{isValid, finishOf}
 use Rattle.pieces.specs.Pieces.{pieceVerdict}
 use Rattle.demands.specs.Cases.{plain, put}
-use Rattle.demands.specs.Clean.{requests, CleanTaking, FirstBack}
-use Rattle.demands.specs.Exhibits.{exhibited, flags, shown, holders, everyStepTaken, breakEach, brokenPages}
+use Rattle.demands.specs.History.{byRequest, byLine}
+use Rattle.demands.specs.Clean.{CleanTaking, FirstBack}
+use Rattle.demands.specs.Exhibits.{exhibited, shown, holders, everyStepTaken, breakEach, brokenPages, breaksAlone, overLimits}
 use Rattle.demands.specs.Exhibits.{answered, trials, mayAnswer, everyReturnShown, everyPutBackShown, wholeNumbers, refusesRightly}
 use Rattle.demands.specs.Exhibits.{pieceNumbers, endNumbers}
 use Rattle.demands.specs.Exhibits.{premises, resumes, resumed, looked, meanwhile}
@@ -58,6 +61,11 @@ steps-exhibited = tt
 pub rules-exhibited : T (breakEach 1 brokenPages)
 unfolding lowestBroken noReaders freshPage
 rules-exhibited = tt
+
+-- rule 8 alone by a count above 127, and by a length above 256
+pub limits-exhibited : T (every (breaksAlone 8) overLimits)
+unfolding lowestBroken noReaders freshPage
+limits-exhibited = tt
 
 -- each of the numbers 0 to 11 and 17 is given somewhere
 pub numbers-exhibited : T (every answered trials)
@@ -149,19 +157,32 @@ pub put-backs-exhibited : T everyPutBackShown
 unfolding stepOf lookFor editedIn judged decideOf soughtOf soundOf lowestBroken noReaders pushed putAt removedAt freshPage
 put-backs-exhibited = tt
 
--- what is asked of a clean taking and of the first that puts the page in can be met, from 8 on and from an image on
-pub clean-exhibited : CleanTaking requests looked (plain 8) × FirstBack requests (stepOf looked (plain 8) .page) meanwhile (put 10 5)
+-- what is asked of a clean taking and of the first that puts the page in can be met, from 8 on,
+pub clean-exhibited : CleanTaking byRequest looked (plain 8) × FirstBack byRequest (stepOf looked (plain 8) .page) meanwhile (put 10 5)
 unfolding stepOf lookFor editedIn judged decideOf soughtOf soundOf lowestBroken noReaders pushed putAt removedAt freshPage
 clean-exhibited = (record { takes = tt; clean = tt }, record { none-before = (tt, (tt, (tt, (tt, (tt, tt))))); back = tt })
 
-pub clean-read-exhibited : T (isEditing (restoredFrom (editingClean .bytes) .page .«exc_state»))
-    × T (excClean (restoredFrom (editingClean .bytes) .page .«exc_state»))
-    × FirstBack requests (restoredFrom (editingClean .bytes) .page) (put 9 6 ∷ []) (put 9 value)
+-- .. by lines of runs, too
+pub clean-lines-exhibited : CleanTaking byLine looked (bytesOf (plain 8))
+    × FirstBack byLine (turnOf looked (bytesOf (plain 8)) .page) (map bytesOf meanwhile) (bytesOf (put 10 5))
+unfolding stepOf lookFor editedIn judged decideOf soughtOf soundOf lowestBroken noReaders pushed putAt removedAt freshPage
+    turnOf readOf bytesOf lineWith
+clean-lines-exhibited = (record { takes = tt; clean = tt }, record { none-before = (tt, (tt, (tt, (tt, (tt, tt))))); back = tt })
+
+-- .. and from an image, short and not
+abbrev ReadClean : List ℕ → Type 0
+ReadClean l =
+    T (isEditing (restoredFrom l .page .«exc_state»))
+    × T (excClean (restoredFrom l .page .«exc_state»))
+    × FirstBack byRequest (restoredFrom l .page) (put 9 6 ∷ []) (put 9 value)
+
+pub clean-read-exhibited : ReadClean (editingClean .bytes) × ReadClean (lengthened (editingClean .bytes))
 unfolding stepOf lookFor editedIn judged decideOf soughtOf soundOf lowestBroken noReaders pushed putAt removedAt freshPage
     imageOf kindBytes countBytes valueBytes entries lineWith pageFrom headFrom excFromBytes u64At readerFrom readersFrom knownSize limitsBy isImage
     readVerdict
     restoredFrom flagFrom storageFrom bucketFrom phaseFrom excFrom loadingFrom writebackFrom
-clean-read-exhibited = (tt, tt, record { none-before = (tt, tt); back = tt })
+clean-read-exhibited =
+    ((tt, tt, record { none-before = (tt, tt); back = tt }), (tt, tt, record { none-before = (tt, tt); back = tt }))
 
 -- each flag premise refuses under just the flags that RULES 3.2 shuts out
 pub flags-refused : T (every refusesRightly premises)

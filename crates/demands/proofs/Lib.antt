@@ -1,6 +1,5 @@
-pub mod Kept
 pub mod Told
-pub mod HandOuts
+pub mod Asked
 pub mod Demand1
 pub mod Demand2
 pub mod Demand3

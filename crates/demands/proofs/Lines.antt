@@ -1,62 +1,52 @@
--- Demand 3 for runs: requests come as bytes and answers as lines. A run adds an event for each of its lines, in the same order
--- (`lines-told`), and what demand 3 says holds of the page after any runs from a sound page (`demand3-runs-from`), a fresh one among them
--- (`demand3-runs`). Assumes nothing.
+-- Demand 3 for runs: requests come as bytes and answers as lines. Any runs are their lines, one after the other (`as-lines`); the answers
+-- of a run are the lines of the events that it adds, in the same order (`lines-told`); and what demand 3 says holds of the page after
+-- any runs from a sound page (`demand3-runs-from`), a fresh one among them (`demand3-runs`). Assumes nothing.
 use Prim.Native.Nat.{ℕ}
 use mathlib.Core.Path.{_≡_, refl, sym, ap, _∙_}
 use mathlib.Core.List.{List, [], _∷_, _++_, append-assoc, append-nil}
 use lib.Dec.{T}
 use lib.ListN.{length, drop}
 use Rattle.page_record.specs.declared.Page.{Page}
-use Rattle.page_record.specs.Pages.{headOf, freshPage}
+use Rattle.page_record.specs.Pages.{freshPage}
 use Rattle.soundness.specs.Soundness.{soundOf}
 use Rattle.soundness.proofs.FreshPage.{fresh-sound}
-use Rattle.soundness.proofs.Tested.{facts}
-use Rattle.requests.specs.declared.{Answer.Answer, Request.Request, Verdict.Verdict}
-use Rattle.requests.specs.Premises.{verdict}
-use Rattle.wire.specs.declared.Reading.{Reading}
+use Rattle.requests.specs.declared.{Answer.Answer, Verdict.Verdict}
 use Rattle.wire.specs.Answers.{lineOf}
-use Rattle.wire.specs.Requests.{fieldsOf, readable, readOf}
-use Rattle.wire.proofs.Premises.{read-passed}
 use Rattle.replay.specs.Turns.{turnOf}
 use Rattle.replay.specs.Run.{requestsOf, pageAfter, linesOf, runVerdict, ends, ranOf, answersOf}
-use Rattle.replay.proofs.Pages.{turn-read, turn-refused}
 use Rattle.replay.proofs.Lines.{answers-are}
-use Rattle.demands.specs.History.{Event, Start, startOf, HandOuts, lineEvent, runHistory, Given, afterRuns, added}
-use Rattle.demands.specs.History.{runsHistory, answerLines}
+use Rattle.demands.specs.History.{Event, left, lineEvent, byLine, runHistory, Given, afterRuns, linesIn, runsHistory, allLines, AsLines}
+use Rattle.demands.specs.History.{answerLines, startOf}
 use Rattle.demands.specs.Demand3.{Demand3}
-use Rattle.demands.proofs.Told.{ToldOf, refused-tells, step-tells, start-told}
-use Rattle.demands.proofs.HandOuts.{added-hands}
-use Rattle.demands.proofs.Demand3.{demanded}
-use Rattle.demands.proofs.Kept.{turn-keeps, run-keeps}
+use Rattle.demands.proofs.Asked.{line-acts, left-on, happened-on}
+use Rattle.demands.proofs.Demand3.{demand3-asked}
 
--- ---- one line
--- the request that is read has the fields of its bytes
-read-fields : (bytes : List ℕ) (q : Request) → readOf bytes ≡ Reading.Request q → fieldsOf bytes ≡ q
-unfolding readOf
-read-fields bytes q e = read-passed (fieldsOf bytes) q (verdict (readable bytes)) e .1
+-- ---- runs are their lines
+-- lines leave the page that a run of them ends with
+pub lines-left : (p : Page) (rs : List (List ℕ)) → pageAfter p rs ≡ left byLine p rs
+lines-left p [] = refl
+lines-left p (r ∷ rs) = lines-left (turnOf p r .page) rs
 
-module _ (p : Page) (bytes : List ℕ) where
-  turn-tells : (start : Start) (past : List Event) → T (soundOf p) → ToldOf start (headOf p) past
-      → ToldOf start (headOf (turnOf p bytes .page)) (lineEvent p bytes ∷ past)
-  turn-tells start past sound told = go (readOf bytes) refl
-    where
-      go : (r : Reading) → readOf bytes ≡ r → ToldOf start (headOf (turnOf p bytes .page)) (lineEvent p bytes ∷ past)
-      go (Reading.Request q) e = rw (turn-read p bytes q e, read-fields bytes q e) (step-tells start p q past sound told)
-      go (Reading.Refused why) e = rw (turn-refused p bytes why e) (refused-tells start (headOf p) past (fieldsOf bytes) why told)
+run-left : (p : Page) (requests : List ℕ) (v : Verdict) → ends p requests v .page ≡ left byLine p (linesIn requests v)
+run-left p requests Verdict.Passed = lines-left p (requestsOf requests)
+run-left p requests (Verdict.Failed why) = refl
 
--- ---- all lines
-run-tells : (start : Start) (p : Page) (past : List Event) (rs : List (List ℕ)) → T (soundOf p) → ToldOf start (headOf p) past
-    → ToldOf start (headOf (pageAfter p rs)) (runHistory p rs past)
-run-tells start p past [] sound told = told
-run-tells start p past (r ∷ rs) sound told =
-    run-tells start (turnOf p r .page) (lineEvent p r ∷ past) rs (turn-keeps p r sound) (turn-tells p r start past sound told)
+pub as-lines : (p : Page) (gs : List Given) → AsLines p gs
+unfolding ranOf
+as-lines p [] = record { page = refl; history = λ past. refl }
+as-lines p (g ∷ gs) =
+    let v = runVerdict p (length (g .requests)) (length (g .answers)) in
+    let now = linesIn (g .requests) v in
+    let next = ends p (g .requests) v .page in
+    let more = allLines next gs in
+    let e = run-left p (g .requests) v in
+    let rest = as-lines next gs in
+    record {
+      page = rest .page ∙ left-on byLine more next p now e;
+      history = λ past. rest .history (runHistory p now past) ∙ happened-on byLine more next p now past e;
+    }
 
--- lines in two parts make the second's history of the first's
-pub history-append : (p : Page) (before after : List (List ℕ)) (past : List Event)
-    → runHistory p (before ++ after) past ≡ runHistory (pageAfter p before) after (runHistory p before past)
-history-append p [] after past = refl
-history-append p (r ∷ before) after past = history-append (turnOf p r .page) before after (lineEvent p r ∷ past)
-
+-- ---- the answer lines
 -- the history's lines are the run's
 lines-from : (p : Page) (rs : List (List ℕ)) (past : List Event) → answerLines (runHistory p rs past)
     ≡ answerLines past ++ linesOf p rs
@@ -65,7 +55,6 @@ lines-from p (r ∷ rs) past =
     let next = turnOf p r .page in
     lines-from next rs (lineEvent p r ∷ past) ∙ append-assoc (answerLines past) (lineOf (turnOf p r .answer)) (linesOf next rs)
 
--- ---- a run
 -- the answers of an accepted run are the lines of the events that it adds, and what stood past them
 pub lines-told : (p : Page) (requests answers : List ℕ) → ranOf p requests answers .answer ≡ Answer.Accepted
     → answersOf p requests answers ≡ answerLines (runHistory p (requestsOf requests) []) ++ drop (length requests) answers
@@ -73,31 +62,12 @@ lines-told p requests answers accepted =
     answers-are p requests answers accepted
     ∙ ap (λ (l : List ℕ). l ++ drop (length requests) answers) (sym (lines-from p (requestsOf requests) []))
 
--- after a run, however it was judged, the page is sound and the history tells of it (and so after a piece: proofs/Pieces.antt)
-module _ (start : Start) (p : Page) (past : List Event) (requests : List ℕ) where
-  pub ended-sound : T (soundOf p) → (v : Verdict) → T (soundOf (ends p requests v .page))
-  ended-sound sound Verdict.Passed = run-keeps p (requestsOf requests) sound
-  ended-sound sound (Verdict.Failed why) = sound
-
-  pub ended-told : T (soundOf p) → ToldOf start (headOf p) past → (v : Verdict)
-      → ToldOf start (headOf (ends p requests v .page)) (added p requests past v)
-  ended-told sound told Verdict.Passed = run-tells start p past (requestsOf requests) sound told
-  ended-told sound told (Verdict.Failed why) = told
-
--- ---- run after run
-runs-demanded : (start : Start) (p : Page) (past : List Event) (gs : List Given) → T (soundOf p) → ToldOf start (headOf p) past
-    → HandOuts past → Demand3 start (afterRuns p gs) (runsHistory p gs past)
-unfolding ranOf
-runs-demanded start p past [] sound told hands = demanded start p past (facts p sound .parts) told hands
-runs-demanded start p past (g ∷ gs) sound told hands =
-    let v = runVerdict p (length (g .requests)) (length (g .answers)) in
-    runs-demanded start (ends p (g .requests) v .page) (added p (g .requests) past v) gs
-    (ended-sound start p past (g .requests) sound v) (ended-told start p past (g .requests) sound told v)
-    (added-hands p (g .requests) past v hands)
-
+-- ---- demand 3
 -- from any sound page, after any runs, refused ones among them
 pub demand3-runs-from : (p : Page) → T (soundOf p) → (gs : List Given) → Demand3 (startOf p) (afterRuns p gs) (runsHistory p gs [])
-demand3-runs-from p sound gs = runs-demanded (startOf p) p [] gs sound (start-told p sound) tt
+demand3-runs-from p sound gs =
+    let t = as-lines p gs in
+    rw (t .page, t .history []) (demand3-asked byLine line-acts p sound (allLines p gs))
 
 -- from a fresh page
 pub demand3-runs : (v : ℕ) (gs : List Given)

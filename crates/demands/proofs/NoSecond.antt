@@ -144,7 +144,8 @@ use Rattle.wire.proofs.write_u64.Reads as write-u64-contract
 use Rattle.wire.proofs.put.Reads as put-line-contract
 use Rattle.wire.proofs.write.Reads as write-contract
 use Rattle.wire.proofs.write_answer.Reads as write-answer-contract
-use Rattle.image.proofs.decode.Reads as decode-contract
+use Rattle.encoding.proofs.encode.Reads as encode-contract
+use Rattle.decoding.proofs.decode.Reads as decode-contract
 use Rattle.image.proofs.read.Reads as read-image-contract
 use Rattle.image.proofs.write.Reads as write-image-contract
 use Rattle.replay.proofs.run.Reads as run-contract
@@ -590,7 +591,10 @@ write = equations (λ o. o .1 .0 .now) _ _
 pub write-answer : AtMostOneWith (λ o. o .1 .0 .now) write-answer-contract.Post
 write-answer = equations (λ o. o .1 .0 .now) _ _
 
--- ---- image
+-- ---- encoding, decoding and image
+pub encode : AtMostOneWith (λ o. o .1 .0 .now) encode-contract.Post
+encode = filling (λ o. o .1 .0 .now) _
+
 pub decode : AtMostOne decode-contract.Post
 decode = equation _
 

@@ -1,5 +1,5 @@
--- The order of the readers is not to be seen: two pages that differ in it alone have one census (`census-same`) and run any bytes alike
--- (`run-free`); and after any requests answers, counts and census are those of a list that closes the gap (`unseen`). One request, answered
+-- The order of the readers is not to be seen: two pages that differ in it alone have one census (`census-same`), run any bytes alike
+-- (`run-free`) and take any piece alike (`piece-free`); and after any requests answers, counts and census are those of a list that closes the gap (`unseen`). One request, answered
 -- by the lock and on that list (`closes-alike`): by `order-free`, and since both ways take the same entry out (`closed-same`). Assumes
 -- nothing.
 use Prim.Native.Nat.{ℕ, _+_}
@@ -35,8 +35,11 @@ use Rattle.wire.specs.Answers.{lineOf}
 use Rattle.wire.specs.Requests.{readOf}
 use Rattle.replay.specs.Turns.{onReading, turnOf}
 use Rattle.replay.specs.Run.{requestsOf, pageAfter, linesOf, runVerdict, ends, fills, ranOf, answersOf}
+use Rattle.pieces.specs.declared.Carry.{Carry}
+use Rattle.pieces.specs.Pieces.{wholeIn, atHand, pieceVerdict, takes, takenOf, puts, bufferAfter}
 use Rattle.demands.specs.History.{Event, event, after, history}
-use Rattle.demands.specs.Order.{closing, decidedClosing, stepClosing, steppedClosing, afterClosing, historyClosing, RunsAlike, Unseen}
+use Rattle.demands.specs.Order.{closing, decidedClosing, stepClosing, steppedClosing, afterClosing, historyClosing, RunsAlike}
+use Rattle.demands.specs.Order.{PiecesAlike, Unseen}
 
 -- ---- the same entry goes, whichever way
 closed-same : (e : Edit) (l : List Reader) → Rearranged (edited e l) (closing e l)
@@ -143,6 +146,45 @@ run-free p p′ two requests answers =
 
     left : (v : Verdict) → Alike (ends p requests v .page) (ends p′ requests v .page)
     left Verdict.Passed = pages-alike (requestsOf requests) p p′ two
+    left (Verdict.Failed why) = two
+
+-- ---- a piece, with any carry
+taking-same : (p p′ : Page) → Alike p p′ → (c : Carry) (piece space : ℕ) → pieceVerdict p′ c piece space ≡ pieceVerdict p c piece space
+unfolding pieceVerdict
+taking-same p p′ two c piece space = rw (to-true (soundOf p) (two .sound), to-true (soundOf p′) (two .sound′))
+
+pub piece-free : (p p′ : Page) → Alike p p′ → (c : Carry) (piece answers : List ℕ) → PiecesAlike p p′ c piece answers
+unfolding takenOf bufferAfter
+piece-free p p′ two c piece answers =
+    let given = pieceVerdict p c (length piece) (length answers) in
+    let same = taking-same p p′ two c (length piece) (length answers) in
+    record {
+      answer = rw same (answer given);
+      carry = rw same (carry given);
+      count = rw same (count given);
+      lines = rw same (lines given);
+      left = rw same (left given);
+    }
+  where
+    answer : (v : Verdict) → takes p c piece v .answer ≡ takes p′ c piece v .answer
+    answer Verdict.Passed = refl
+    answer (Verdict.Failed why) = refl
+
+    carry : (v : Verdict) → takes p c piece v .carry ≡ takes p′ c piece v .carry
+    carry Verdict.Passed = refl
+    carry (Verdict.Failed why) = refl
+
+    count : (v : Verdict) → takes p c piece v .lines ≡ takes p′ c piece v .lines
+    count Verdict.Passed = refl
+    count (Verdict.Failed why) = refl
+
+    lines : (v : Verdict) → puts p c piece answers v ≡ puts p′ c piece answers v
+    lines Verdict.Passed =
+        ap (λ (l : List ℕ). l ++ drop (wholeIn (length (atHand c piece))) answers) (lines-same (requestsOf (atHand c piece)) p p′ two)
+    lines (Verdict.Failed why) = refl
+
+    left : (v : Verdict) → Alike (takes p c piece v .page) (takes p′ c piece v .page)
+    left Verdict.Passed = pages-alike (requestsOf (atHand c piece)) p p′ two
     left (Verdict.Failed why) = two
 
 -- ---- any requests

@@ -2,31 +2,31 @@
 -- requests at hand, so its lines are that run's. Demand 2 is that of any line, and demand 3 goes from piece to piece. Where bytes are
 -- cut does not matter (`cutting`): a piece's requests and what it leaves, with what comes after, are those of both together. Assumes
 -- nothing.
-use Prim.Native.Nat.{ℕ, _+_, _-_, _*_, _/_, _%_, _<_, _≤_}
+use Prim.Native.Nat.{ℕ, _-_, _*_, _/_, _%_, _<_, _≤_}
 use mathlib.Core.Path.{_≡_, refl, sym, ap, subst, _∙_}
 use mathlib.Core.List.{List, [], _∷_, _++_, append-assoc, append-nil}
 use native.Mathlib.Omega.{arith}
 use lib.Dec.{T}
 use lib.ListN.{length, take, drop, getD, length-replicate}
-use lib.Seq.{take-at, drop-at}
+use lib.Seq.{take-at}
 use Rattle.laws.proofs.Tests.{to-true, is-true}
 use Rattle.laws.proofs.Tables.{first-lowest, first-none}
 use Rattle.kinds.specs.Limits.{lineSize}
 use Rattle.page_record.specs.declared.Page.{Page}
-use Rattle.page_record.specs.Pages.{headOf, freshPage}
+use Rattle.page_record.specs.Pages.{freshPage}
 use Rattle.soundness.specs.Soundness.{soundOf}
 use Rattle.soundness.proofs.FreshPage.{fresh-sound}
-use Rattle.soundness.proofs.Tested.{facts}
 use Rattle.requests.specs.declared.{Refusal.Refusal, Answer.Answer, Verdict.Verdict}
 use Rattle.lock.specs.declared.Outcome.{Outcome}
 use Rattle.wire.specs.Answers.{lineOf}
+use Rattle.wire.proofs.Buffers.{leaves-past}
 use Rattle.image.specs.Keeping.{restoredFrom}
 use Rattle.image.proofs.Trips.{restored-sound}
 use Rattle.replay.specs.Turns.{turnOf}
 use Rattle.replay.specs.Run.{requestsOf, pageAfter, linesOf, lineAt, pageAt, runVerdict, ends, fills, ranOf, answersOf}
 use Rattle.replay.specs.Applies.{applyingLine}
 use Rattle.replay.proofs.Judged.{passed}
-use Rattle.replay.proofs.Pages.{request-at, page-append, page-next, page-all}
+use Rattle.replay.proofs.Pages.{refused-turn, run-keeps, request-at, page-append, page-next, page-all}
 use Rattle.replay.proofs.Lines.{lines-append}
 use Rattle.pieces.specs.declared.{Carry.Carry, Taken.Taken}
 use Rattle.pieces.specs.Carries.{carrySize, held, carryOf, isValid, finishOf}
@@ -37,18 +37,15 @@ use Rattle.pieces.proofs.Carries.{held-carry, valid-carry, valid, length-held, 
 use Rattle.pieces.proofs.Judged.{Fits, fits, passes, judged, piece-passed, piece-failed, taken-is, buffer-is}
 use Rattle.pieces.proofs.Runs.{length-whole-lines, piece-ran, piece-lines}
 use Rattle.pieces.proofs.Least.{piece-number, piece-plain, finish-number, finish-plain}
-use Rattle.demands.specs.History.{Event, Start, Given, startOf, HandOuts, runHistory, added}
-use Rattle.demands.specs.Demand3.{Demand3}
+use Rattle.demands.specs.History.{Event, left, byLine, runHistory, Given, linesIn, added}
 use Rattle.demands.specs.Pieces.{Between, taken, next, afterPieces, buffer, linesGiven, linesJoined, piecesHistory}
 use Rattle.demands.specs.Pieces.{Demand1Piece, Demand1Finish, Demand2Piece, Demand3Pieces, Ready, AllAccepted, joined, allBytes}
 use Rattle.demands.specs.Pieces.{Cutting, SameCut, begun, WholeRequests, Unchanged, Within, byByte}
-use Rattle.demands.proofs.Told.{ToldOf, start-told}
-use Rattle.demands.proofs.HandOuts.{added-hands}
-use Rattle.demands.proofs.Kept.{run-keeps}
-use Rattle.demands.proofs.Demand1.{accepts-none, refused-turn, line-first, demand1-run}
+use Rattle.demands.proofs.Demand1.{accepts-none, line-first, demand1-run}
 use Rattle.demands.proofs.Demand2.{demand2-run}
-use Rattle.demands.proofs.Demand3.{demanded}
-use Rattle.demands.proofs.Lines.{history-append, ended-sound, ended-told}
+use Rattle.demands.proofs.Asked.{line-acts, left-on, happened-on}
+use Rattle.demands.proofs.Demand3.{demand3-asked}
+use Rattle.demands.proofs.Lines.{lines-left}
 
 -- ---- a piece that is accepted
 module _ (p : Page) (c : Carry) (piece answers : List ℕ) (e : takenOf p c piece answers .answer ≡ Answer.Accepted) where
@@ -86,8 +83,7 @@ stays : (p : Page) (c : Carry) (piece answers : List ℕ) (v : Verdict)
     → drop (lineSize * takes p c piece v .lines) (puts p c piece answers v) ≡ drop (lineSize * takes p c piece v .lines) answers
 stays p c piece answers Verdict.Passed =
     let l = atHand c piece in
-    let rest = drop (wholeIn (length l)) answers in
-    drop-at (linesOf p (requestsOf l)) rest (wholeIn (length l)) (length-whole-lines p l)
+    leaves-past (wholeIn (length l)) (linesOf p (requestsOf l)) answers Verdict.Passed (λ e. length-whole-lines p l)
 stays p c piece answers (Verdict.Failed why) = refl
 
 pub demand1-piece : (p : Page) (c : Carry) (piece answers : List ℕ) → Demand1Piece p c piece answers
@@ -127,28 +123,37 @@ pub demand2-piece : Demand2Piece
 demand2-piece p c piece = demand2-run p (atHand c piece)
 
 -- ---- demand 3
--- a piece leaves the page that a run of the bytes at hand leaves which is judged as it was
-takes-page : (p : Page) (c : Carry) (piece : List ℕ) (v : Verdict) → ends p (atHand c piece) v .page ≡ takes p c piece v .page
-takes-page p c piece Verdict.Passed = refl
-takes-page p c piece (Verdict.Failed why) = refl
+-- a piece leaves the page that its lines leave; one that is refused has none
+takes-left : (p : Page) (c : Carry) (piece : List ℕ) (v : Verdict) → takes p c piece v .page ≡ left byLine p (linesIn (atHand c piece) v)
+takes-left p c piece Verdict.Passed = lines-left p (requestsOf (atHand c piece))
+takes-left p c piece (Verdict.Failed why) = refl
 
-pieces-demanded : (start : Start) (s : Between) (past : List Event) (gs : List Given) → T (soundOf (s .page))
-    → ToldOf start (headOf (s .page)) past → HandOuts past → Demand3 start (afterPieces s gs .page) (piecesHistory s gs past)
+-- pieces are some lines, one after the other
+record Lined (s : Between) (gs : List Given) : Type 0 where
+  lines : List (List ℕ)
+  page : afterPieces s gs .page ≡ left byLine (s .page) lines
+  history : (past : List Event) → piecesHistory s gs past ≡ runHistory (s .page) lines past
+
+lined : (s : Between) (gs : List Given) → Lined s gs
 unfolding takenOf
-pieces-demanded start s past [] sound told hands = demanded start (s .page) past (facts (s .page) sound .parts) told hands
-pieces-demanded start s past (g ∷ gs) sound told hands =
+lined s [] = record { lines = []; page = refl; history = λ past. refl }
+lined s (g ∷ gs) =
     let p = s .page in
-    let l = atHand (s .carry) (g .requests) in
     let v = judged p (s .carry) (g .requests) (g .answers) in
-    let same = takes-page p (s .carry) (g .requests) v in
-    pieces-demanded start (next s g) (added p l past v) gs
-    (subst (λ (q : Page). T (soundOf q)) same (ended-sound start p past l sound v))
-    (subst (λ (q : Page). ToldOf start (headOf q) (added p l past v)) same (ended-told start p past l sound told v))
-    (added-hands p l past v hands)
+    let now = linesIn (atHand (s .carry) (g .requests)) v in
+    let e = takes-left p (s .carry) (g .requests) v in
+    let rest = lined (next s g) gs in
+    record {
+      lines = now ++ rest .lines;
+      page = rest .page ∙ left-on byLine (rest .lines) (next s g .page) p now e;
+      history = λ past. rest .history (runHistory p now past) ∙ happened-on byLine (rest .lines) (next s g .page) p now past e;
+    }
 
 -- from any sound page, a fresh one and one that was read among them
 pub demand3-pieces-from : (p : Page) → T (soundOf p) → Demand3Pieces p
-demand3-pieces-from p sound c gs = pieces-demanded (startOf p) (record { page = p; carry = c }) [] gs sound (start-told p sound) tt
+demand3-pieces-from p sound c gs =
+    let t = lined (record { page = p; carry = c }) gs in
+    rw (t .page, t .history []) (demand3-asked byLine line-acts p sound (t .lines))
 
 pub demand3-pieces : (v : ℕ) → Demand3Pieces (freshPage v)
 demand3-pieces v = demand3-pieces-from (freshPage v) (fresh-sound v)
@@ -210,7 +215,7 @@ module _ (s : Between) (g : Given) (e : taken s g .answer ≡ Answer.Accepted) w
       λ past.
       ap (λ (v : Verdict). piecesHistory (next s g) gs (added p first past v)) (piece-passed p (s .carry) (g .requests) (g .answers) e)
       ∙ rest .history (runHistory p (requestsOf first) past)
-      ∙ sym (history-append p (requestsOf first) (requestsOf left) past)
+      ∙ happened-on byLine (requestsOf left) mid p (requestsOf first) past (lines-left p (requestsOf first))
       ∙ ap (λ (qs : List (List ℕ)). runHistory p qs past) (sym requests) in
       let here : Through p (first ++ more) s (g ∷ gs) =
       record {

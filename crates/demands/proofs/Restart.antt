@@ -1,13 +1,13 @@
 -- The demands for images, proved: the numbers and the round trips are those of `image`, and demand 3 from a page that was read is an
 -- instance of demand 3 from any sound page. Assumes nothing.
-use Prim.Native.Nat.{ℕ}
+use Prim.Native.Nat.{ℕ, _≤_}
 use mathlib.Core.Path.{_≡_, refl, sym, ap, subst, _∙_}
 use mathlib.Core.Logic.{_↔_}
 use mathlib.Core.Bool.{Bool, true, false, not, _||_, true≢false}
-use mathlib.Core.List.{List, _++_, append-nil}
+use mathlib.Core.List.{List, _++_}
 use native.Mathlib.Omega.{arith}
 use lib.Dec.{T}
-use lib.ListN.{length, drop, drop-of-length-le}
+use lib.ListN.{length, drop}
 use Rattle.laws.specs.Tables.{appliesIn}
 use Rattle.laws.proofs.Tests.{to-true}
 use Rattle.laws.proofs.Tables.{first-lowest, first-none}
@@ -18,17 +18,18 @@ use Rattle.requests.specs.declared.Answer.{Answer}
 use Rattle.requests.specs.Premises.{verdict}
 use Rattle.requests.proofs.Verdicts.{passed}
 use Rattle.wire.specs.Bytes.{Bytes}
+use Rattle.wire.proofs.Buffers.{leaves-whole}
 use Rattle.wire.proofs.Premises.{answer-passed}
-use Rattle.image.specs.Images.{wholeSize, imageOf, InRange}
+use Rattle.encoding.specs.Images.{wholeSize, shortSize, imageOf, lengthened, InRange}
 use Rattle.image.specs.Keeping.{limitsBy, ImageUnder, restored, restoredFrom, keepable, keptAnswer, keptIn}
 use Rattle.image.specs.Applies.{isSoundImage, applyingRead, applyingWrite}
-use Rattle.image.proofs.Rooms.{length-image, image-longer}
-use Rattle.image.proofs.Lengths.{by-short, by-other, sound-today}
+use Rattle.encoding.proofs.Rooms.{length-image, image-longer}
+use Rattle.image.proofs.Lengths.{by-short, by-other, known-one, sound-today}
 use Rattle.image.proofs.Trips.{in-range, Accepted, accepted, refused-fresh, restored-sound, four-refused, write-read}
 use Rattle.image.proofs.Trips.{image-iff, accepts-images, image-injective}
 use Rattle.image.proofs.Short.{short-write, short-read}
 use Rattle.image.proofs.Written.{write-whole, write-untouched, write-first, write-past}
-use Rattle.image.proofs.Least.{read-number, read-plain, write-number, write-plain}
+use Rattle.image.proofs.Least.{read-number, read-plain, read-fifteen, write-number, write-plain}
 use Rattle.demands.specs.Restart.{Long, Demand1Image, Demand1Keep, Demand2Image, Demand2Short, Demand3Image}
 use Rattle.demands.proofs.Demand1.{accepts-none}
 use Rattle.demands.proofs.Demand3.{demand3-from}
@@ -53,9 +54,10 @@ unfolding soundOf
 demand1-image l = record {
   given = λ n k. rw (read-number l) (first-lowest (applyingRead l) tt n k);
   accepted = accepts-none _ (applyingRead l) (read-plain l) (read-number l) (first-none (applyingRead l) tt);
+  fifteen = read-fifteen l;
   sixteen = λ long. sixteen-under l today (by-other (length l) long);
   sixteen-short = λ size. sixteen-under l short (by-short (length l) size);
-  four = four-refused l;
+  four = λ one. four-refused l (known-one (length l) one);
   fresh = refused-fresh l;
   sound = restored-sound l;
 }
@@ -83,8 +85,7 @@ wholly l p long e = subst (λ (x : Limits). imageOf (x .readers) p ≡ l) (by-ot
 module _ (l buffer : List ℕ) (p : Page) (long : Long l) (bytes : Bytes l) (whole : length buffer ≡ wholeSize) where
   -- nothing of the buffer is left
   alone : imageOf capacity p ++ drop wholeSize buffer ≡ imageOf capacity p
-  alone =
-      ap (λ (z : List ℕ). imageOf capacity p ++ z) (drop-of-length-le buffer {i = wholeSize} (omega arith)) ∙ append-nil (imageOf capacity p)
+  alone = leaves-whole wholeSize (imageOf capacity p) buffer whole
 
   there : restoredFrom l ≡ restored p → InRange p × (keptAnswer p buffer ≡ Answer.Accepted) × (keptIn p buffer ≡ l)
   there e =
@@ -108,11 +109,19 @@ demand2-image = record {
   agree = λ l buffer p long bytes whole. (there l buffer p long bytes whole, back l buffer p long bytes whole);
 }
 
+-- read short and written again
+written-long : (l buffer : List ℕ) (p : Page) → length l ≡ shortSize → restoredFrom l ≡ restored p → wholeSize ≤ length buffer
+    → (keptAnswer p buffer ≡ Answer.Accepted) × (keptIn p buffer ≡ lengthened l ++ drop wholeSize buffer)
+written-long l buffer p size e room =
+    let w = write-whole p buffer (to-true (soundOf p) (sound-today (length l) p (accepted l p e .sound))) room in
+    (sym (w .0), sym (w .1) ∙ ap (λ (z : List ℕ). z ++ drop wholeSize buffer) (short-write l p size e))
+
 pub demand2-short : Demand2Short
 demand2-short = record {
   lengthens = λ p few. image-longer shortCapacity capacity p few (omega arith);
   short-read = λ l p size bytes. short-read l p bytes size;
   short-write = short-write;
+  again = written-long;
   accepts-short = λ l size. accepts-under l short (by-short (length l) size);
 }
 

@@ -1,6 +1,6 @@
 -- What the history tells of a page, step by step: counts, storage, the loader and its bucket, the exclusive holder's bucket, the value
--- that it keeps, and the values handed out. Each step keeps it (one entry for each number), a refusal changes neither page nor
--- history's sums, so it holds after any requests. Assumes nothing.
+-- that it keeps, and the values handed out. Each step keeps it (one entry for each number), and a refusal changes neither page nor
+-- history's sums. Assumes nothing.
 use Prim.Native.Nat.{ℕ, _+_, _≤_, _<_}
 use mathlib.Core.Path.{_≡_, refl, sym, _∙_}
 use mathlib.Core.Bool.{Bool, true, false, not, cond, _&&_}
@@ -15,15 +15,14 @@ use Rattle.laws.proofs.Pick.{Below, _&_, pick}
 use Rattle.kinds.specs.declared.{Bucket.Bucket, Count.Count, Storage.Storage, MaybeBucket.MaybeBucket, Reader.Reader}
 use Rattle.kinds.specs.declared.{Phase.Phase, ExcState.ExcState, LoadingState.LoadingState}
 use Rattle.kinds.specs.Limits.{buckets, capacity}
-use Rattle.readers.specs.declared.Found.{Found}
 use Rattle.readers.specs.Listed.{live, findIn}
-use Rattle.readers.proofs.First.{found}
 use Rattle.page_record.specs.declared.{Head.Head, Page.Page}
 use Rattle.page_record.specs.Holders.{isStored, hasBucket, validBucket, noExc, isClaim, isAwait, isPending, isEditing, excBucket}
 use Rattle.page_record.specs.Holders.{noLoad, isLoading, loadingBucket, valueOf, excValue}
 use Rattle.page_record.specs.Pages.{numberAt, headOf}
 use Rattle.page_record.specs.References.{refAt}
 use Rattle.page_record.proofs.Inversions.{is-claim, is-await, is-pending, is-editing, is-waiting, is-counted, is-loading}
+use Rattle.rules.specs.Rules.{storageSomeInvariant}
 use Rattle.soundness.specs.Soundness.{soundOf}
 use Rattle.soundness.proofs.Facts.{Sound}
 use Rattle.soundness.proofs.Shapes.{rules-of, loads-alone}
@@ -34,16 +33,16 @@ use Rattle.requests.specs.Premises.{Passes, verdict}
 use Rattle.requests.specs.Requests.{formal, judged, pastLast}
 use Rattle.requests.proofs.Verdicts.{passed}
 use Rattle.requests.proofs.Reasons.{refusal-positive}
-use Rattle.requests.proofs.Formed.{judged-bucket, step-below}
+use Rattle.requests.proofs.Formed.{formed, step-below}
 use Rattle.heads.specs.Setters.{raise, lower, lowerIf}
-use Rattle.heads.specs.Decisions.{Step, settled, isFound, reader}
+use Rattle.heads.specs.Decisions.{Step, settled, isFound, placeOf, reader}
 use Rattle.steps.specs.Decide.{stepAt, soughtOf, decideOf}
 use Rattle.lock.specs.Words.{raising, leaving, givingBack, puttingIn, handingOut, fetching}
 use Rattle.lock.specs.Step.{lookFor, stepped, stepOf}
+use Rattle.lock.proofs.Keeps.Cells.{found-first}
 use Rattle.lock.proofs.Keeps.Counts.{number-raise, number-lower}
 use Rattle.lock.proofs.Exact.Granted.{granted, exc-within}
-use Rattle.lock.proofs.Keeps.{step-keeps}
-use Rattle.demands.specs.History.{Event, Start, startOf, event, after, history, arrivals, departures, lastPut}
+use Rattle.demands.specs.History.{Event, Start, startOf, startWith, event, arrivals, departures, lastPut}
 use Rattle.demands.specs.History.{lastTaken, lastWithdrew, lastCounted, countedSince, editorNamed, HandedOut}
 
 -- ---- what is told
@@ -122,13 +121,9 @@ module _ (start : Start) (h : Head) (l : List Reader) (b : Bucket) (clean value 
 
   -- a reader that is found is counted
   found-counted : (phase : Phase) → T (isFound (findIn l (reader phase b))) → 1 ≤ numberAt (h .«ref_counts») (b .0)
-  found-counted phase t = go (findIn l (reader phase b)) refl t
-    where
-      go : (f : Found) → findIn l (reader phase b) ≡ f → T (isFound f) → 1 ≤ numberAt (h .«ref_counts») (b .0)
-      go (Found.At i) e t =
-          let f = found (reader phase b) l i e in
-          rw (f .equal) at (listed-counted s i (f .inside))
-      go Found.Nowhere e t = absurd t
+  found-counted phase t =
+      let f = found-first l (reader phase b) t in
+      rw (f .equal) at (listed-counted s (placeOf (findIn l (reader phase b))) (f .inside))
 
   -- a withdrawal hands out what was last put in
   was-put : (v : ℕ) → h .storage ≡ Storage.In v → v ≡ lastPut start past
@@ -174,7 +169,7 @@ module _ (start : Start) (h : Head) (l : List Reader) (b : Bucket) (clean value 
       let leaves = to-false (among leaving n) (u .0 .0 .1) in
       let done = to-false (among (17 ∷ []) n) (u .0 .1) in
       let gives = to-false (among givingBack n) (u .1) in
-      λ w. recounts n w λ x. rw (raises, leaves, done, gives) (same x)
+      λ w. recounts n w λ x. simp (raises, leaves, done, gives) (same x)
 
   -- a step that puts the value in, and leaves the loader: no exclusive holder has the page out after it
   puts : (n : ℕ) {cs : List Count} {e : ExcState} → T (putsOnly n)
@@ -334,7 +329,7 @@ module _ (start : Start) (h : Head) (l : List Reader) (b : Bucket) (clean value 
       let there : T (not (noLoad (h .«loading_state»))) = rw (is-loading (h .«loading_state») (t .0)) tt in
       record {
         balance = λ x.
-            rw (told .since there, loader-named m (lastCounted start past) x (told .counted))
+            simp (told .since there, loader-named m (lastCounted start past) x (told .counted))
             (omega (arith, left-balance m v (λ b k. omega (arith, s .counts b k)) x));
         stored = refl;
         counted = λ w. absurd w;
@@ -411,15 +406,15 @@ module _ (start : Start) (p : Page) (q : Request) (past : List Event) where
   decided-tells : Sound (headOf p) (live (p .readers)) → judged q ≡ Verdict.Passed → ToldOf start (headOf p) past
       → ToldOf start (headOf (stepped p q Verdict.Passed .page)) (record { request = q; answer = stepped p q Verdict.Passed .answer } ∷ past)
   unfolding decideOf judged
-  decided-tells sound formed told = go (verdict (st .premises)) refl
+  decided-tells sound well told = go (verdict (st .premises)) refl
     where
       go : (v : Verdict) → verdict (st .premises) ≡ v
           → ToldOf start (settled (headOf p) st v .head) (record { request = q; answer = settled (headOf p) st v .answer } ∷ past)
       go Verdict.Passed f =
           let l = live (p .readers) in
           let full = leb capacity (p .readers .len) in
-          let inside = judged-bucket q formed in
-          let known = passed (formal q) formed .0 in
+          let inside = formed q well .bucket in
+          let known = passed (formal q) well .0 in
           pick pastLast (Entry start (headOf p) l (q .bucket) (q .clean) (q .value) full past sound inside told)
           (entries start (headOf p) l (q .bucket) (q .clean) (q .value) full past sound inside told)
           (q .step) (step-below (q .step) known)
@@ -436,14 +431,7 @@ module _ (start : Start) (p : Page) (q : Request) (past : List Event) where
       go Verdict.Passed e = decided-tells (facts p sound .parts) e told
       go (Verdict.Failed why) e = refused-tells start (headOf p) past q why told
 
--- ---- any requests
-pub tells : (start : Start) (p : Page) (past : List Event) (qs : List Request) → T (soundOf p) → ToldOf start (headOf p) past
-    → ToldOf start (headOf (after p qs)) (history p qs past)
-tells start p past [] sound told = told
-tells start p past (q ∷ qs) sound told =
-    tells start (stepOf p q .page) (event p q ∷ past) qs (step-keeps p q sound) (step-tells start p q past sound told)
-
--- at the start nothing has happened
+-- ---- at the start nothing has happened
 pub start-told : (p : Page) → T (soundOf p) → ToldOf (startOf p) (headOf p) []
 start-told p sound = record {
   balance = λ b. refl;
@@ -459,3 +447,24 @@ start-told p sound = record {
         → s ≡ cond (not (isStored s)) Storage.Out (Storage.In (cond (isStored s) (valueOf s) (excValue (p .«exc_state»))))
     as-kept Storage.Out = refl
     as-kept (Storage.In v) = refl
+
+-- .. and any value will do where the page is out with a loader
+pub start-unknown : (p : Page) → T (soundOf p) → T (not (noLoad (p .«loading_state»))) → (v : ℕ) → ToldOf (startWith v p) (headOf p) []
+start-unknown p sound loads v =
+    let r = rules-of (p .storage) (p .«exc_state») (p .«loading_state») (p .«writeback_state») (p .flag) (facts p sound .parts .head) in
+    let some = to-false (noLoad (p .«loading_state»)) loads in
+    let none = loads-alone (p .«exc_state») (p .storage) (p .«loading_state») (p .«writeback_state») (r .exc) some in
+    record {
+      balance = λ b. refl;
+      stored = go some (r .storage) (p .storage) refl;
+      counted = λ t. refl;
+      since = λ t. refl;
+      edited = λ t. refl;
+      kept = λ t. absurd (rw none at t);
+      handed = tt;
+    }
+  where
+    go : noLoad (p .«loading_state») ≡ false → T (storageSomeInvariant (p .storage) (p .«exc_state») (p .«loading_state»)) → (s : Storage)
+        → p .storage ≡ s → s ≡ cond (not (isStored s)) Storage.Out (Storage.In v)
+    go some rule Storage.Out e = refl
+    go some rule (Storage.In w) e = absurd (rw (e, some) at rule)

@@ -8,10 +8,12 @@ use mathlib.Core.Bool.{false}
 use mathlib.Core.List.{List, [], _∷_, _++_}
 use Rattle.kinds.specs.declared.{Bucket.Bucket, MaybeBucket.MaybeBucket, ExcState.ExcState, LoadingState.LoadingState}
 use Rattle.page_record.specs.declared.Page.{Page}
+use Rattle.page_record.specs.Holders.{loadingBucket}
 use Rattle.page_record.specs.Pages.{numberAt}
+use Rattle.page_record.specs.References.{refAt}
 use Rattle.requests.specs.declared.Answer.{Answer}
 use Rattle.demands.specs.History.{Event, Start, putBefore, startOf, lastCounted, countedSince, editorNamed, departures, lastPut}
-use Rattle.demands.specs.History.{lastTaken, lastWithdrew}
+use Rattle.demands.specs.History.{lastTaken, lastWithdrew, arrivals}
 
 -- an accepted request
 abbrev pub granted : ℕ → Bucket → Event
@@ -65,3 +67,5 @@ pub record AsIf (p : Page) (past : List Event) : Type 0 where
   pub put : lastPut (startOf p) past ≡ lastPut (bareStart p) (past ++ before p)
   pub taken : lastTaken (startOf p) past ≡ lastTaken (bareStart p) (past ++ before p)
   pub withdrew : lastWithdrew (startOf p) past ≡ lastWithdrew (bareStart p) (past ++ before p)
+  -- and of what came before the loader's 13 alone reads as an arrival, at its bucket; it is counted as none, since the start's counts have it
+  pub arrived : (b : ℕ) → arrivals b (before p) ≡ refAt (loadingBucket (p .«loading_state»)) b

@@ -1,6 +1,6 @@
 -- The worked cases A to H and K to O of RULES 10 as one table: what each request is answered, and what is said of the record then; the
 -- departures of K and L; and case A as the bytes of a run.
-use Prim.Native.Nat.{ℕ, _+_}
+use Prim.Native.Nat.{ℕ}
 use mathlib.Core.Bool.{Bool, true, false, not, _&&_, Bool·beq}
 use mathlib.Core.List.{List, [], _∷_, _++_, map}
 use lib.Dec.{eqb}
@@ -234,6 +234,14 @@ caseL =
     ∷ ok (plain 25) (flagIs Flag.Available ∷ countsAre 0 0 0 0 ∷ [])
     ∷ []
 
+-- .. beside the archive
+abbrev pub caseLBeside : List Row
+caseLBeside =
+    ok (plain 1) []
+    ∷ ok (ask 4 1 0 5) (flagIs Flag.WritebackAndClaimed ∷ countsAre 0 1 0 0 ∷ [])
+    ∷ ok (plain 25) (flagIs Flag.Writeback ∷ countsAre 0 0 0 0 ∷ [])
+    ∷ []
+
 -- back to the claim, beside the archive and without it; then the claimant reads on, and stands last
 abbrev pub backBeside : List Row
 backBeside =
@@ -315,6 +323,7 @@ workedCases =
     ∷ caseK
     ∷ caseKBeside
     ∷ (caseB ++ caseL)
+    ∷ (caseB ++ caseLBeside)
     ∷ (caseB ++ caseM)
     ∷ (caseB ++ caseMBeside)
     ∷ (caseB ++ caseN)

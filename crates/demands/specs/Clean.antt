@@ -1,43 +1,21 @@
--- Clean means clean (RULES 9): what a clean editor puts in is what it took. Said once of anything that is asked one after the other and
--- has its page and its event: requests, and the lines of runs; and runs are their lines (`AsLines`). No page is asked to be sound:
--- whatever is accepted was asked of a sound one.
+-- Clean means clean (RULES 9): what a clean editor puts in is what it took. Said once of anything that is asked one after the other
+-- (`Asking`): requests, and the lines of runs; and runs are their lines (`AsLines`). No page is asked to be sound: whatever is accepted
+-- was asked of a sound one.
 use Prim.Native.Nat.{ℕ}
 use mathlib.Core.Path.{_≡_}
 use mathlib.Core.Bool.{not}
-use mathlib.Core.List.{List, [], _∷_, _++_}
+use mathlib.Core.List.{List, [], _∷_}
 use lib.Dec.{T}
-use lib.ListN.{length}
 use Rattle.kinds.specs.declared.Storage.{Storage}
 use Rattle.page_record.specs.declared.Page.{Page}
 use Rattle.page_record.specs.Holders.{isEditing, excClean, excValue}
-use Rattle.requests.specs.declared.{Request.Request, Answer.Answer, Verdict.Verdict}
+use Rattle.requests.specs.declared.Answer.{Answer}
 use Rattle.lock.specs.Words.{puttingBack}
-use Rattle.lock.specs.Step.{stepOf}
-use Rattle.replay.specs.Turns.{turnOf}
-use Rattle.replay.specs.Run.{requestsOf, runVerdict, ranOf}
-use Rattle.image.specs.Decoding.{u64At}
+use Rattle.decoding.specs.Decoding.{u64At}
 use Rattle.image.specs.Keeping.{restoredFrom}
-use Rattle.demands.specs.History.{Event, event, lineEvent, runHistory, Given, afterRuns, runsHistory, accepted}
-
--- what can be asked of a page: the page that it leaves, and what it adds to the history
-pub record Asking : Type 1 where
-  pub Ask : Type 0
-  pub page : Page → Ask → Page
-  pub event : Page → Ask → Event
-
--- a request, and a line of a run
-abbrev pub requests : Asking
-requests = record { Ask = Request; page = λ p q. stepOf p q .page; event = event }
-
-abbrev pub lines : Asking
-lines = record { Ask = List ℕ; page = λ p bytes. turnOf p bytes .page; event = lineEvent }
+use Rattle.demands.specs.History.{Asking, left, accepted}
 
 module _ (way : Asking) where
-  -- one after the other: the page that they leave (of requests, `after`: `left-after`)
-  abbrev pub left : Page → List (way .Ask) → Page
-  left p [] = p
-  left p (a ∷ rest) = left (way .page p a) rest
-
   -- none of them is an accepted 9, 10, 29 or 30
   abbrev pub NoneBack : Page → List (way .Ask) → Type 0
   NoneBack p [] = Unit {0}
@@ -46,7 +24,7 @@ module _ (way : Asking) where
   -- from this page on, after `between`, `giving` is the first accepted 9, 10, 29 or 30
   pub record FirstBack (p : Page) (between : List (way .Ask)) (giving : way .Ask) : Type 0 where
     pub none-before : NoneBack p between
-    pub back : T (accepted puttingBack (way .event (left p between) giving))
+    pub back : T (accepted puttingBack (way .event (left way p between) giving))
 
   -- an accepted 8 of a clean holder
   pub record CleanTaking (p : Page) (taking : way .Ask) : Type 0 where
@@ -64,15 +42,15 @@ module _ (way : Asking) where
   CleanMeansClean =
       (p : Page) (taking : way .Ask) (between : List (way .Ask)) (giving : way .Ask)
       → CleanTaking p taking → FirstBack (way .page p taking) between giving
-      → AsTaken p taking (way .event (left (way .page p taking) between) giving .request .value)
-      (way .page (left (way .page p taking) between) giving)
+      → AsTaken p taking (way .event (left way (way .page p taking) between) giving .request .value)
+      (way .page (left way (way .page p taking) between) giving)
 
   -- beside a clean editor that has the page out the first of them puts in what it keeps: with nothing between, these four are accepted
   -- only with that ..
   abbrev pub CleanFirst : Type 0
   CleanFirst =
       (p : Page) (between : List (way .Ask)) (giving : way .Ask) → T (isEditing (p .«exc_state»)) → T (excClean (p .«exc_state»))
-      → FirstBack p between giving → way .event (left p between) giving .request .value ≡ excValue (p .«exc_state»)
+      → FirstBack p between giving → way .event (left way p between) giving .request .value ≡ excValue (p .«exc_state»)
 
   -- .. and of one that was read it is the value at byte 40
   abbrev pub CleanRead : Type 0
@@ -80,28 +58,10 @@ module _ (way : Asking) where
       (l : List ℕ) (between : List (way .Ask)) (giving : way .Ask)
       → T (isEditing (restoredFrom l .page .«exc_state»)) → T (excClean (restoredFrom l .page .«exc_state»))
       → FirstBack (restoredFrom l .page) between giving
-      → way .event (left (restoredFrom l .page) between) giving .request .value ≡ u64At 40 l
+      → way .event (left way (restoredFrom l .page) between) giving .request .value ≡ u64At 40 l
 
 -- all of it
 pub record Clean (way : Asking) : Type 0 where
   pub means-clean : CleanMeansClean way
   pub first : CleanFirst way
   pub read : CleanRead way
-
--- ---- runs are their lines
--- a run that is refused as a whole has none
-abbrev pub linesIn : List ℕ → Verdict → List (List ℕ)
-linesIn requests Verdict.Passed = requestsOf requests
-linesIn requests (Verdict.Failed why) = []
-
--- run after run
-abbrev pub allLines : Page → List Given → List (List ℕ)
-allLines p [] = []
-allLines p (g ∷ gs) =
-    linesIn (g .requests) (runVerdict p (length (g .requests)) (length (g .answers)))
-    ++ allLines (ranOf p (g .requests) (g .answers) .page) gs
-
--- the page and the history of any runs are those of their lines
-pub record AsLines (p : Page) (gs : List Given) : Type 0 where
-  pub page : afterRuns p gs ≡ left lines p (allLines p gs)
-  pub history : (past : List Event) → runsHistory p gs past ≡ runHistory p (allLines p gs) past

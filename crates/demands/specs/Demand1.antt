@@ -81,9 +81,8 @@ pub record Demand1Run (p : Page) (requests answers : List ℕ) : Type 0 where
       ≡ turnOf (pageAt k p requests) (lineAt k requests) .page
   pub refused-line : (k : ℕ) → k < length requests / lineSize → (why : Refusal)
       → turnOf (pageAt k p requests) (lineAt k requests) .answer ≡ Answer.Refused why → pageAt (suc k) p requests ≡ pageAt k p requests
-  -- and the run ends with the page that all of them left;
+  -- and the run ends with the page that all of them left
   pub page : ranOf p requests answers .answer ≡ Answer.Accepted → ranOf p requests answers .page
       ≡ pageAt (length requests / lineSize) p requests
-  -- the bytes past the last line stay
-  pub past : ranOf p requests answers .answer ≡ Answer.Accepted
-      → drop (length requests) (answersOf p requests answers) ≡ drop (length requests) answers
+  -- the bytes past the last line stay, however the run was judged
+  pub past : drop (length requests) (answersOf p requests answers) ≡ drop (length requests) answers

@@ -2,20 +2,20 @@
 -- broken alone somewhere, pages that were read and go on, each number given somewhere (15 and 16 by the samples of `image`; those of a
 -- run and of a piece apart), each number that 25 to 30 can answer by each of them, and what a clean editor and a dirty one may put in.
 -- Last, where soundness and demand 3 see nothing, under which flags a flag premise refuses.
-use Prim.Native.Nat.{ℕ, zero, suc, _+_, _-_, _*_, _/_}
+use Prim.Native.Nat.{ℕ, zero, suc, _+_, _-_, _*_}
 use mathlib.Core.Bool.{Bool, true, false, not, cond, _&&_, Bool·beq}
 use mathlib.Core.List.{List, [], _∷_, _++_, map}
 use lib.Dec.{eqb}
 use lib.ListN.{getD, replicate}
 use Rattle.laws.specs.Lists.{every, among}
-use Rattle.kinds.specs.declared.{Flag.Flag, MaybeBucket.MaybeBucket, Storage.Storage, Phase.Phase, Reader.Reader}
+use Rattle.kinds.specs.declared.{Flag.Flag, MaybeBucket.MaybeBucket, Count.Count, Storage.Storage, Phase.Phase, Reader.Reader}
 use Rattle.kinds.specs.declared.{ExcState.ExcState, LoadingState.LoadingState, WritebackState.WritebackState}
-use Rattle.kinds.specs.Limits.{buckets, capacity, ceiling, mostRequests, lineSize}
-use Rattle.kinds.specs.Numbers.{flagNumber, excNumber, loadingNumber, writebackNumber, phaseNumber}
+use Rattle.kinds.specs.Limits.{mostRequests, lineSize}
+use Rattle.kinds.specs.Numbers.{flags, flagNumber, excNumber, loadingNumber, writebackNumber, phaseNumber}
 use Rattle.readers.specs.declared.Readers.{Readers}
 use Rattle.readers.specs.Listed.{live, listed, noReaders}
 use Rattle.page_record.specs.declared.Page.{Page}
-use Rattle.page_record.specs.Holders.{isStored, hasBucket, excBucket, loadingBucket}
+use Rattle.page_record.specs.Holders.{hasBucket, excBucket, loadingBucket}
 use Rattle.page_record.specs.Pages.{headOf, pageOf, freshPage, headWith}
 use Rattle.rules.specs.Rules.{everyBucket}
 use Rattle.soundness.specs.Soundness.{rules, lowestBroken, soundOf}
@@ -30,8 +30,9 @@ use Rattle.replay.specs.Run.{runVerdict}
 use Rattle.pieces.specs.declared.Carry.{Carry}
 use Rattle.pieces.specs.Carries.{finishOf}
 use Rattle.pieces.specs.Pieces.{pieceSize, pieceVerdict}
+use Rattle.encoding.specs.Images.{lengthened}
 use Rattle.image.specs.Keeping.{restoredFrom}
-use Rattle.image.specs.Samples.{Sample, claim, editing, editingClean, counted, loading, prefetch, value}
+use Rattle.image.specs.Samples.{claim, editing, editingClean, counted, loading, prefetch, value, padded, crowdBytes}
 use Rattle.demands.specs.History.{after, history, startOf, departures, lastWithdrew}
 use Rattle.demands.specs.Cases.{ask, plain, at, put, clean, flagIs, pendingAt}
 
@@ -62,12 +63,6 @@ wayTo Flag.WritebackAndPendingExcLock = fills ++ plain 1 ∷ plain 3 ∷ plain 5
 wayTo Flag.PendingExcLock = fills ++ plain 3 ∷ plain 5 ∷ []
 wayTo Flag.ExcLockClean = fills ++ plain 3 ∷ plain 5 ∷ clean 1 ∷ []
 wayTo Flag.ExcLockDirty = fills ++ plain 3 ∷ plain 5 ∷ clean 0 ∷ []
-
-abbrev pub flags : List Flag
-flags =
-    Flag.Unmapped ∷ Flag.Loading ∷ Flag.LoadingExcLock ∷ Flag.Available ∷ Flag.Claimed ∷ Flag.Writeback
-    ∷ Flag.WritebackAndClaimed ∷ Flag.WritebackAndPendingExcLock ∷ Flag.PendingExcLock ∷ Flag.ExcLockClean ∷ Flag.ExcLockDirty
-    ∷ []
 
 abbrev pub pageUnder : Flag → Page
 pageUnder f = led (wayTo f)
@@ -175,6 +170,18 @@ upFrom n (suc k) = n ∷ upFrom (n + 1) k
 abbrev pub everyStepTaken : Bool
 everyStepTaken = every (allAccepted (freshPage 0)) courses && every taken (upFrom 1 lastStep)
 
+-- ---- pages that readers wait for
+-- so many at each bucket
+abbrev pub numbered : ℕ → ℕ → ℕ → ℕ → List Count
+numbered a b c d = record { 0 = a } ∷ record { 0 = b } ∷ record { 0 = c } ∷ record { 0 = d } ∷ []
+
+abbrev pub waiting : ℕ → ℕ → ℕ → ℕ → List Reader
+waiting a b c d = replicate a (pendingAt 0) ++ replicate b (pendingAt 1) ++ replicate c (pendingAt 2) ++ replicate d (pendingAt 3)
+
+-- of a fresh page
+abbrev pub crowd : ℕ → ℕ → ℕ → ℕ → Page
+crowd a b c d = pageOf (headWith (Storage.In 0) Flag.Unmapped (numbered a b c d) ExcState.None LoadingState.None WritebackState.None) (listed (waiting a b c d))
+
 -- ---- each rule is broken alone somewhere
 -- a page of these parts, with n at bucket 0 and 0 at the others; and one that nobody holds
 abbrev pub pageOfParts : Storage → Flag → ℕ → ExcState → LoadingState → WritebackState → Readers → Page
@@ -207,28 +214,40 @@ brokenPages =
     (record { items = listed (oneAt Phase.Pending2 ∷ []) .items; len = 0 })
     ∷ []
 
+-- and rule 8 by its numbers: one more at a bucket than may be, each listed; a length above the array's
+abbrev pub overLimits : List Page
+overLimits =
+    crowd 128 0 0 0
+    ∷ pageOf (headOf (crowd 64 64 64 64)) (record { items = crowd 64 64 64 64 .readers .items; len = 257 })
+    ∷ []
+
 -- just this rule is broken
 abbrev pub breaks : ℕ → List Bool → Bool
 breaks n [] = true
 breaks n (t ∷ ts) = Bool·beq t (not (eqb n 1)) && breaks (n - 1) ts
 
+abbrev pub breaksAlone : ℕ → Page → Bool
+breaksAlone n p = breaks n (rules (headOf p) (p .readers)) && eqb (lowestBroken p) n
+
 abbrev pub breakEach : ℕ → List Page → Bool
 breakEach n [] = true
-breakEach n (p ∷ ps) = breaks n (rules (headOf p) (p .readers)) && eqb (lowestBroken p) n && breakEach (n + 1) ps
+breakEach n (p ∷ ps) = breaksAlone n p && breakEach (n + 1) ps
 
 -- ---- a page that was read goes on
--- the requests are all accepted, and depart so often from each bucket; before them the page is out just if it was read so
+-- the bytes, and whether the page counts as withdrawn then; requests that are all accepted, and how often they depart from each bucket
 pub record Resumed : Type 0 where
-  pub from : Sample
+  pub from : List ℕ
+  pub out : Bool
   pub requests : List Request
   pub departs : List ℕ
 
 abbrev pub resumes : Resumed → Bool
 resumes r =
-    let p = restoredFrom (r .from .bytes) .page in
+    let p = restoredFrom (r .from) .page in
     let told = history p (r .requests) [] in
-    allAccepted p (r .requests)
-    && Bool·beq (lastWithdrew (startOf p) []) (not (isStored (p .storage)))
+    eqb (answerNumber (restoredFrom (r .from) .answer)) 0
+    && allAccepted p (r .requests)
+    && Bool·beq (lastWithdrew (startOf p) []) (r .out)
     && every (λ b. eqb (departures (startOf p) b told) (getD (r .departs) b 0)) everyBucket
 
 -- a loader that was read with a bucket leaves it; one that has none leaves none; a reader that was read leaves its own; a claimant that
@@ -236,49 +255,29 @@ resumes r =
 -- one that it got since by an 18, which says nothing of a claimant that comes after it; a clean one puts in the value that was read
 abbrev pub resumed : List Resumed
 resumed =
-    record { from = loading; requests = put 17 5 ∷ []; departs = 1 ∷ 0 ∷ 0 ∷ 0 ∷ [] }
-    ∷ record { from = counted; requests = plain 14 ∷ put 17 5 ∷ []; departs = 0 ∷ 0 ∷ 0 ∷ 1 ∷ [] }
-    ∷ record { from = prefetch; requests = put 17 5 ∷ []; departs = 0 ∷ 0 ∷ 0 ∷ 0 ∷ [] }
-    ∷ record { from = claim; requests = ask 22 3 0 value ∷ []; departs = 0 ∷ 0 ∷ 0 ∷ 1 ∷ [] }
-    ∷ record { from = editing; requests = at 18 1 ∷ put 10 6 ∷ []; departs = 0 ∷ 0 ∷ 0 ∷ 0 ∷ [] }
-    ∷ record { from = claim; requests = plain 25 ∷ []; departs = 0 ∷ 0 ∷ 1 ∷ 0 ∷ [] }
-    ∷ record { from = claim; requests = plain 25 ∷ plain 3 ∷ plain 25 ∷ []; departs = 0 ∷ 0 ∷ 1 ∷ 0 ∷ [] }
-    ∷ record { from = claim; requests = plain 26 ∷ ask 4 3 0 value ∷ plain 25 ∷ []; departs = 0 ∷ 0 ∷ 0 ∷ 1 ∷ [] }
-    ∷ record { from = editing; requests = put 29 6 ∷ []; departs = 0 ∷ 0 ∷ 0 ∷ 0 ∷ [] }
-    ∷ record { from = editing; requests = at 18 1 ∷ put 30 6 ∷ []; departs = 0 ∷ 1 ∷ 0 ∷ 0 ∷ [] }
-    ∷ record { from = editing; requests = at 18 1 ∷ put 29 6 ∷ plain 3 ∷ plain 25 ∷ []; departs = 0 ∷ 1 ∷ 0 ∷ 0 ∷ [] }
-    ∷ record { from = editingClean; requests = put 9 value ∷ []; departs = 0 ∷ 0 ∷ 0 ∷ 0 ∷ [] }
-    ∷ record { from = editingClean; requests = put 29 value ∷ []; departs = 0 ∷ 1 ∷ 0 ∷ 0 ∷ [] }
+    record { from = loading .bytes; out = true; requests = put 17 5 ∷ []; departs = 1 ∷ 0 ∷ 0 ∷ 0 ∷ [] }
+    ∷ record { from = counted .bytes; out = true; requests = plain 14 ∷ put 17 5 ∷ []; departs = 0 ∷ 0 ∷ 0 ∷ 1 ∷ [] }
+    ∷ record { from = prefetch .bytes; out = true; requests = put 17 5 ∷ []; departs = 0 ∷ 0 ∷ 0 ∷ 0 ∷ [] }
+    ∷ record { from = claim .bytes; out = false; requests = ask 22 3 0 value ∷ []; departs = 0 ∷ 0 ∷ 0 ∷ 1 ∷ [] }
+    ∷ record { from = editing .bytes; out = true; requests = at 18 1 ∷ put 10 6 ∷ []; departs = 0 ∷ 0 ∷ 0 ∷ 0 ∷ [] }
+    ∷ record { from = claim .bytes; out = false; requests = plain 25 ∷ []; departs = 0 ∷ 0 ∷ 1 ∷ 0 ∷ [] }
+    ∷ record { from = claim .bytes; out = false; requests = plain 25 ∷ plain 3 ∷ plain 25 ∷ []; departs = 0 ∷ 0 ∷ 1 ∷ 0 ∷ [] }
+    ∷ record { from = claim .bytes; out = false; requests = plain 26 ∷ ask 4 3 0 value ∷ plain 25 ∷ []; departs = 0 ∷ 0 ∷ 0 ∷ 1 ∷ [] }
+    ∷ record { from = editing .bytes; out = true; requests = put 29 6 ∷ []; departs = 0 ∷ 0 ∷ 0 ∷ 0 ∷ [] }
+    ∷ record { from = editing .bytes; out = true; requests = at 18 1 ∷ put 30 6 ∷ []; departs = 0 ∷ 1 ∷ 0 ∷ 0 ∷ [] }
+    ∷ record { from = editing .bytes; out = true; requests = at 18 1 ∷ put 29 6 ∷ plain 3 ∷ plain 25 ∷ []; departs = 0 ∷ 1 ∷ 0 ∷ 0 ∷ [] }
+    ∷ record { from = editingClean .bytes; out = true; requests = put 9 value ∷ []; departs = 0 ∷ 0 ∷ 0 ∷ 0 ∷ [] }
+    ∷ record { from = editingClean .bytes; out = true; requests = put 29 value ∷ []; departs = 0 ∷ 1 ∷ 0 ∷ 0 ∷ [] }
+    -- the same of images of today's length; a full list, of which one leaves and another comes
+    ∷ record { from = lengthened (loading .bytes); out = true; requests = put 17 5 ∷ []; departs = 1 ∷ 0 ∷ 0 ∷ 0 ∷ [] }
+    ∷ record { from = lengthened (editingClean .bytes); out = true; requests = put 29 value ∷ []; departs = 0 ∷ 1 ∷ 0 ∷ 0 ∷ [] }
+    ∷ record { from = crowdBytes 256 3 (64 ∷ 64 ∷ 64 ∷ 64 ∷ []); out = false; requests = at 20 3 ∷ at 19 0 ∷ []; departs = 0 ∷ 0 ∷ 0 ∷ 1 ∷ [] }
+    -- read short at either of the short limits, and then past it
+    ∷ record { from = padded (crowdBytes 31 0 (31 ∷ [])); out = false; requests = at 19 0 ∷ []; departs = 0 ∷ 0 ∷ 0 ∷ 0 ∷ [] }
+    ∷ record { from = crowdBytes 64 3 (16 ∷ 16 ∷ 16 ∷ 16 ∷ []); out = false; requests = at 19 0 ∷ []; departs = 0 ∷ 0 ∷ 0 ∷ 0 ∷ [] }
     ∷ []
 
 -- ---- each number is given somewhere
--- a bucket at its ceiling, and a full list with every bucket under its ceiling; both unmapped
-abbrev pub crowded : Page
-crowded = unheld (Storage.In 0) Flag.Unmapped ceiling (listed (replicate ceiling (oneAt Phase.Pending)))
-
--- an equal share of a full list at each bucket
-abbrev pub share : ℕ
-share = capacity / buckets
-
-abbrev pub crowdAt : ℕ → ℕ → List Reader
-crowdAt n b = replicate n (pendingAt b)
-
-abbrev pub full : Page
-full =
-    pageOf
-    (headWith (Storage.In 0) Flag.Unmapped (replicate buckets (record { 0 = share })) ExcState.None LoadingState.None WritebackState.None)
-    (listed (crowdAt share 0 ++ crowdAt share 1 ++ crowdAt share 2 ++ crowdAt share 3))
-
--- a full list with two buckets at their ceiling: 10 comes before 11
-abbrev pub doubly : Page
-doubly =
-    let rest = capacity - 2 * ceiling in
-    pageOf
-    (headWith (Storage.In 0) Flag.Unmapped
-    (record { 0 = ceiling } ∷ record { 0 = ceiling } ∷ record { 0 = rest } ∷ record { 0 = 0 } ∷ []) ExcState.None LoadingState.None
-    WritebackState.None)
-    (listed (crowdAt ceiling 0 ++ crowdAt ceiling 1 ++ crowdAt rest 2))
-
 -- a request on a page, and its number
 pub record Trial : Type 0 where
   pub page : Page
@@ -288,10 +287,10 @@ pub record Trial : Type 0 where
 abbrev pub answered : Trial → Bool
 answered t = eqb (answerNumber (stepOf (t .page) (t .request) .answer)) (t .number)
 
--- 0 to 11 and 17, in their order; the pages of 0 and of 2 to 17 are sound
+-- 0 to 11 and 17, in their order; every page but that of 1 is sound
 abbrev pub trials : List Trial
 trials =
-    record { page = full; request = at 20 3; number = 0 }
+    record { page = crowd 64 64 64 64; request = at 20 3; number = 0 }
     ∷ record { page = lost; request = plain 0; number = 1 }
     ∷ record { page = freshPage 0; request = at 31 4; number = 2 }
     ∷ record { page = freshPage 0; request = at 1 1; number = 3 }
@@ -301,9 +300,13 @@ trials =
     ∷ record { page = pageUnder Flag.Loading; request = put 16 5; number = 7 }
     ∷ record { page = pageUnder Flag.ExcLockClean; request = plain 8; number = 8 }
     ∷ record { page = after (pageUnder Flag.ExcLockClean) (at 19 0 ∷ []); request = plain 7; number = 9 }
-    ∷ record { page = crowded; request = at 19 0; number = 10 }
-    ∷ record { page = doubly; request = at 19 0; number = 10 }
-    ∷ record { page = full; request = at 19 0; number = 11 }
+    -- case I: at a bucket there is room for the 127th and not for one more; in the list for the 256th; and 10 comes before 11
+    ∷ record { page = crowd 126 0 0 0; request = at 19 0; number = 0 }
+    ∷ record { page = crowd 127 0 0 0; request = at 19 0; number = 10 }
+    ∷ record { page = crowd 64 64 64 63; request = at 19 3; number = 0 }
+    ∷ record { page = crowd 64 64 64 64; request = at 19 0; number = 11 }
+    ∷ record { page = crowd 127 127 2 0; request = at 19 0; number = 10 }
+    ∷ record { page = crowd 127 127 2 0; request = at 19 3; number = 11 }
     ∷ record { page = led (claimsBare ++ editsClean); request = put 29 6; number = 17 }
     ∷ []
 
@@ -348,9 +351,9 @@ endNumbers = map (λ (c : Carry). answerNumber (finishOf c)) (claims 0 0 ∷ cla
 abbrev pub fullClaimed : Page
 fullClaimed =
     pageOf
-    (headWith (Storage.In 0) Flag.Claimed (withNumber 0 (share + 1) (replicate buckets (record { 0 = share })))
-    (ExcState.Claim (MaybeBucket.At (record { 0 = 0 })) 0) LoadingState.None WritebackState.None)
-    (full .readers)
+    (headWith (Storage.In 0) Flag.Claimed (numbered 65 64 64 64) (ExcState.Claim (MaybeBucket.At (record { 0 = 0 })) 0) LoadingState.None
+    WritebackState.None)
+    (listed (waiting 64 64 64 64))
 
 -- the numbers that 25 to 30 can answer, and no other (`returns-answer`): they are known steps, take no bucket and ask for no flag
 abbrev pub mayAnswer : ℕ → List ℕ
@@ -377,6 +380,7 @@ returns =
     ∷ record { page = led (claimsBare ++ awaits); request = ask 27 0 1 0; number = 3 }
     ∷ record { page = led (claimsBare ++ closes); request = plain 27; number = 6 }
     ∷ record { page = led (claimsBare ++ closes); request = plain 28; number = 0 }
+    ∷ record { page = led (claimsBare ++ looksClean); request = plain 28; number = 0 }
     ∷ record { page = lost; request = plain 28; number = 1 }
     ∷ record { page = led (claimsBare ++ closes); request = put 28 5; number = 3 }
     ∷ record { page = led (claimsBare ++ edits); request = plain 28; number = 6 }
@@ -404,9 +408,9 @@ everyReturnShown = every answered returns && every (λ n. every (rowFor n) (mayA
 abbrev pub fullOut : Page
 fullOut =
     pageOf
-    (headWith Storage.Out Flag.ExcLockClean (withNumber 0 (share + 1) (replicate buckets (record { 0 = share })))
-    (ExcState.Obtained (MaybeBucket.At (record { 0 = 0 })) true 5) LoadingState.None WritebackState.None)
-    (full .readers)
+    (headWith Storage.Out Flag.ExcLockClean (numbered 65 64 64 64) (ExcState.Obtained (MaybeBucket.At (record { 0 = 0 })) true 5)
+    LoadingState.None WritebackState.None)
+    (listed (waiting 64 64 64 64))
 
 -- a clean editor puts in what it took, 5, and no other value, with a bucket or without, and after 18 gave it one; a dirty one puts in
 -- either. 7 and 11 come before 17; the request's own clean is 3, before both

@@ -30,26 +30,46 @@ pub record Event : Type 0 where
 abbrev pub event : Page → Request → Event
 event p q = record { request = q; answer = stepOf p q .answer }
 
--- ---- requests one after the other, refused ones among them
--- the page that they leave
+-- ---- one after the other, refused ones among them
+-- what can be asked of a page: the page that it leaves, and what it adds to the history
+pub record Asking : Type 1 where
+  pub Ask : Type 0
+  pub page : Page → Ask → Page
+  pub event : Page → Ask → Event
+
+module _ (way : Asking) where
+  -- the page that they leave
+  abbrev pub left : Page → List (way .Ask) → Page
+  left p [] = p
+  left p (a ∷ asks) = left (way .page p a) asks
+
+  -- the history that they make of an earlier one
+  abbrev pub happened : Page → List (way .Ask) → List Event → List Event
+  happened p [] past = past
+  happened p (a ∷ asks) past = happened (way .page p a) asks (way .event p a ∷ past)
+
+-- ---- requests
+abbrev pub byRequest : Asking
+byRequest = record { Ask = Request; page = λ p q. stepOf p q .page; event = event }
+
 abbrev pub after : Page → List Request → Page
-after p [] = p
-after p (q ∷ qs) = after (stepOf p q .page) qs
+after = left byRequest
 
--- the history that they make of an earlier one
 abbrev pub history : Page → List Request → List Event → List Event
-history p [] past = past
-history p (q ∷ qs) past = history (stepOf p q .page) qs (event p q ∷ past)
+history = happened byRequest
 
--- ---- the same for the lines of a run: what cannot be read is a refused request too
+-- ---- the lines of a run: what cannot be read is a refused request too
 abbrev pub lineEvent : Page → List ℕ → Event
 lineEvent p bytes = record { request = fieldsOf bytes; answer = turnOf p bytes .answer }
 
-abbrev pub runHistory : Page → List (List ℕ) → List Event → List Event
-runHistory p [] past = past
-runHistory p (r ∷ rs) past = runHistory (turnOf p r .page) rs (lineEvent p r ∷ past)
+abbrev pub byLine : Asking
+byLine = record { Ask = List ℕ; page = λ p bytes. turnOf p bytes .page; event = lineEvent }
 
--- run after run: what each is given, requests and a buffer for its answers
+abbrev pub runHistory : Page → List (List ℕ) → List Event → List Event
+runHistory = happened byLine
+
+-- ---- run after run
+-- what each is given, requests and a buffer for its answers
 pub record Given : Type 0 where
   pub requests : List ℕ
   pub answers : List ℕ
@@ -59,16 +79,32 @@ abbrev pub afterRuns : Page → List Given → Page
 afterRuns p [] = p
 afterRuns p (g ∷ gs) = afterRuns (ranOf p (g .requests) (g .answers) .page) gs
 
--- a run adds its lines; one that is refused as a whole has none
+-- a run that is refused as a whole has no lines
+abbrev pub linesIn : List ℕ → Verdict → List (List ℕ)
+linesIn requests Verdict.Passed = requestsOf requests
+linesIn requests (Verdict.Failed why) = []
+
+-- a run adds its lines
 abbrev pub added : Page → List ℕ → List Event → Verdict → List Event
-added p requests past Verdict.Passed = runHistory p (requestsOf requests) past
-added p requests past (Verdict.Failed why) = past
+added p requests past v = runHistory p (linesIn requests v) past
 
 abbrev pub runsHistory : Page → List Given → List Event → List Event
 runsHistory p [] past = past
 runsHistory p (g ∷ gs) past =
     runsHistory (ranOf p (g .requests) (g .answers) .page) gs
     (added p (g .requests) past (runVerdict p (length (g .requests)) (length (g .answers))))
+
+-- the lines of any runs, one after the other
+abbrev pub allLines : Page → List Given → List (List ℕ)
+allLines p [] = []
+allLines p (g ∷ gs) =
+    linesIn (g .requests) (runVerdict p (length (g .requests)) (length (g .answers)))
+    ++ allLines (ranOf p (g .requests) (g .answers) .page) gs
+
+-- runs are their lines: the page and the history of any runs are those of these
+pub record AsLines (p : Page) (gs : List Given) : Type 0 where
+  pub page : afterRuns p gs ≡ left byLine p (allLines p gs)
+  pub history : (past : List Event) → runsHistory p gs past ≡ runHistory p (allLines p gs) past
 
 -- the answer lines that a history stands for, the oldest first
 abbrev pub answerLines : List Event → List ℕ
@@ -87,7 +123,7 @@ pub record Start : Type 0 where
   pub editor : MaybeBucket
 
 -- what was put in last, as a page has it: storage's value, else the one that its exclusive holder keeps. For a page that is out with a
--- loader it is unknown, and nobody holds or keeps a value
+-- loader it is not known, and any value will do (`demand3-unknown`)
 abbrev pub putBefore : Page → ℕ
 putBefore p = cond (isStored (p .storage)) (valueOf (p .storage)) (excValue (p .«exc_state»))
 
@@ -100,6 +136,16 @@ startOf p = record {
   out = not (isStored (p .storage));
   loader = loadingBucket (p .«loading_state»);
   editor = excBucket (p .«exc_state»);
+}
+
+-- the same, but that this value was put in last
+abbrev pub startWith : ℕ → Page → Start
+startWith v p = record {
+  counts = startOf p .counts;
+  value = v;
+  out = startOf p .out;
+  loader = startOf p .loader;
+  editor = startOf p .editor;
 }
 
 -- ---- the words of RULES 9

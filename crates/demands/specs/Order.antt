@@ -19,7 +19,9 @@ use Rattle.lock.specs.declared.Outcome.{Outcome}
 use Rattle.lock.specs.Step.{decidedOn, refusedBy}
 use Rattle.lock.specs.Order.{Alike}
 use Rattle.replay.specs.Run.{ranOf, answersOf}
-use Rattle.demands.specs.History.{Event, after, history}
+use Rattle.pieces.specs.declared.Carry.{Carry}
+use Rattle.pieces.specs.Pieces.{takenOf, bufferAfter}
+use Rattle.demands.specs.History.{Event, Asking, left, happened, after, history}
 
 -- ---- a list that closes the gap
 -- the list without its entry at a place: the later ones move up
@@ -45,14 +47,18 @@ abbrev pub stepClosing : Page → Request → Outcome
 stepClosing p q = cond (soundOf p) (steppedClosing p q (judged q)) (refusedBy p Refusal.Unsound)
 
 -- requests one after the other: the page that they leave, and the history
+abbrev pub byClosing : Asking
+byClosing = record {
+  Ask = Request;
+  page = λ p q. stepClosing p q .page;
+  event = λ p q. record { request = q; answer = stepClosing p q .answer };
+}
+
 abbrev pub afterClosing : Page → List Request → Page
-afterClosing p [] = p
-afterClosing p (q ∷ qs) = afterClosing (stepClosing p q .page) qs
+afterClosing = left byClosing
 
 abbrev pub historyClosing : Page → List Request → List Event → List Event
-historyClosing p [] past = past
-historyClosing p (q ∷ qs) past =
-    historyClosing (stepClosing p q .page) qs (record { request = q; answer = stepClosing p q .answer } ∷ past)
+historyClosing = happened byClosing
 
 -- ---- two pages that differ in the order alone
 -- a run of any bytes is answered alike, byte by byte, and leaves again such two
@@ -60,6 +66,14 @@ pub record RunsAlike (p p′ : Page) (requests answers : List ℕ) : Type 0 wher
   pub answer : ranOf p requests answers .answer ≡ ranOf p′ requests answers .answer
   pub lines : answersOf p requests answers ≡ answersOf p′ requests answers
   pub left : Alike (ranOf p requests answers .page) (ranOf p′ requests answers .page)
+
+-- and so is a piece, with any carry
+pub record PiecesAlike (p p′ : Page) (c : Carry) (piece answers : List ℕ) : Type 0 where
+  pub answer : takenOf p c piece answers .answer ≡ takenOf p′ c piece answers .answer
+  pub carry : takenOf p c piece answers .carry ≡ takenOf p′ c piece answers .carry
+  pub count : takenOf p c piece answers .lines ≡ takenOf p′ c piece answers .lines
+  pub lines : bufferAfter p c piece answers ≡ bufferAfter p′ c piece answers
+  pub left : Alike (takenOf p c piece answers .page) (takenOf p′ c piece answers .page)
 
 -- ---- the lock, and the lock on a list that closes the gap: what is the same after any requests, from any page, sound or not
 pub record Unseen (p : Page) (qs : List Request) : Type 0 where

@@ -4,7 +4,7 @@
 -- a short one is read as the one which it becomes with zeros, within its own limits.
 use Prim.Native.Nat.{ℕ, _≤_}
 use mathlib.Core.Path.{_≡_}
-use mathlib.Core.Logic.{_↔_}
+use mathlib.Core.Logic.{_↔_, _⊎_, _≢_}
 use mathlib.Core.Bool.{false}
 use mathlib.Core.List.{List, [], _++_}
 use lib.Dec.{T}
@@ -18,8 +18,8 @@ use Rattle.soundness.specs.Soundness.{fitsUnder, soundOf}
 use Rattle.requests.specs.declared.{Refusal.Refusal, Answer.Answer, Request.Request}
 use Rattle.requests.specs.Answers.{answerNumber}
 use Rattle.wire.specs.Bytes.{Bytes}
-use Rattle.image.specs.Images.{wholeSize, shortSize, imageOf, lengthened, InRange}
-use Rattle.image.specs.Keeping.{knownSize, ImageUnder, restored, restoredFrom, keptAnswer, keptIn}
+use Rattle.encoding.specs.Images.{wholeSize, shortSize, imageOf, lengthened, InRange}
+use Rattle.image.specs.Keeping.{ImageUnder, restored, restoredFrom, keptAnswer, keptIn}
 use Rattle.image.specs.Applies.{applyingRead, applyingWrite}
 use Rattle.demands.specs.History.{Event, Given, startOf, after, history, afterRuns, runsHistory}
 use Rattle.demands.specs.Before.{AsIf}
@@ -42,12 +42,14 @@ pub record Demand1Image (l : List ℕ) : Type 0 where
   -- n is given just if it is the lowest of 15 and 16 that applies, and they are accepted just if none applies;
   pub given : (n : ℕ) → 1 ≤ n → (answerNumber (restoredFrom l .answer) ≡ n) ↔ Lowest (applyingRead l) n
   pub accepted : (restoredFrom l .answer ≡ Answer.Accepted) ↔ ((n : ℕ) → appliesIn (applyingRead l) n ≡ false)
+  -- 15 just if there are neither 4,160 bytes nor 1,088
+  pub fifteen : (restoredFrom l .answer ≡ Answer.Refused Refusal.WrongSize) ↔ ((length l ≢ 4160) × (length l ≢ 1088))
   -- to bytes of a short image's length 16 does not apply just if they are the short image of some page that is sound under the short
   -- limits, and to any other just if they are the image of some sound page
   pub sixteen : Long l → Bytes l → (appliesIn (applyingRead l) 16 ≡ false) ↔ ImageOfSound l
   pub sixteen-short : length l ≡ shortSize → Bytes l → (appliesIn (applyingRead l) 16 ≡ false) ↔ ShortImageOfSound l
   -- either length of bytes with 4 at byte 4, where the exclusive holder's number stands: they don't say what was taken
-  pub four : T (knownSize (length l)) → getD l 4 0 ≡ 4 → restoredFrom l .answer ≡ Answer.Refused Refusal.NotAnImage
+  pub four : (length l ≡ 4160) ⊎ (length l ≡ 1088) → getD l 4 0 ≡ 4 → restoredFrom l .answer ≡ Answer.Refused Refusal.NotAnImage
   -- a refusal gives a fresh page of 0, and whatever the bytes are the page that is given is sound
   pub fresh : (why : Refusal) → restoredFrom l .answer ≡ Answer.Refused why → restoredFrom l .page ≡ freshPage 0
   pub sound : T (soundOf (restoredFrom l .page))
@@ -61,7 +63,7 @@ pub record Demand1Keep (p : Page) (buffer : List ℕ) : Type 0 where
   pub untouched : (why : Refusal) → keptAnswer p buffer ≡ Answer.Refused why → keptIn p buffer ≡ buffer
   pub first : keptAnswer p buffer ≡ Answer.Accepted → keptIn p buffer ≡ imageOf capacity p ++ drop wholeSize buffer
   pub past : drop wholeSize (keptIn p buffer) ≡ drop wholeSize buffer
-  pub long : length (imageOf capacity p) ≡ wholeSize
+  pub long : length (imageOf capacity p) ≡ 4160
 
 -- ---- reading and writing undo each other
 pub record Demand2Image : Type 0 where
@@ -88,6 +90,9 @@ pub record Demand2Short : Type 0 where
       → (restoredFrom l ≡ restored p) ↔ ((restoredFrom (lengthened l) ≡ restored p) × T (fitsUnder short p))
   -- so what is read short is written as it is, and zeros
   pub short-write : (l : List ℕ) (p : Page) → length l ≡ shortSize → restoredFrom l ≡ restored p → imageOf capacity p ≡ lengthened l
+  -- for the functions themselves: written again into any buffer that has room, it is those bytes and zeros
+  pub again : (l buffer : List ℕ) (p : Page) → length l ≡ shortSize → restoredFrom l ≡ restored p → wholeSize ≤ length buffer
+      → (keptAnswer p buffer ≡ Answer.Accepted) × (keptIn p buffer ≡ lengthened l ++ drop wholeSize buffer)
   -- what reading accepts of this length is exactly the short images of pages that are sound under the short limits
   pub accepts-short : (l : List ℕ) → length l ≡ shortSize → Bytes l → ((p : Page) × (restoredFrom l ≡ restored p)) ↔ ShortImageOfSound l
 

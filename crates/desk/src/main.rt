@@ -1,4 +1,4 @@
-// The program: request records from standard input, answers to standard output. What is written is decided in `replay`; here
+// The program: requests from standard input, answers to standard output. What is written is decided in `replay`; here
 // is only input and output.
 ghost use Prim.Native.Nat.{_*_, _≤_};
 ghost use Rattle.replay.specs.Reply.{longest};
@@ -8,8 +8,11 @@ use libc::STDIN_FILENO;
 use libc::STDOUT_FILENO;
 use replay::LONGEST;
 
-// How many times as much again is read, only to be counted: 1,048,576 bytes with those that are kept.
-const MORE: usize = 31;
+// How many bytes are read, with those that are kept.
+const MOST_BYTES: usize = 1_048_576;
+
+// How many times as much again is read, only to be counted.
+const MORE: usize = MOST_BYTES / LONGEST - 1;
 
 // Reads on, and answers how many bytes came: fewer than a run takes only where the input ends.
 fn read_on() -> usize

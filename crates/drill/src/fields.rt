@@ -1,8 +1,5 @@
 // Parts of a payload, which may be shorter than what is looked for: what is missing is zero.
 
-// Where the value of a record begins.
-pub const VALUE: usize = 8;
-
 // The byte at a place.
 pub fn byte_at(bytes: &[u8], at: usize) -> u8 {
     if at < bytes.len() { bytes[at] } else { 0 }

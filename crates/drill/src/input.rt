@@ -3,10 +3,10 @@ ghost use mathlib.Core.Path.{_≡_};
 ghost use Prim.Native.Nat.{_-_, _≤_};
 ghost use lib.ListN.{length};
 ghost use Rattle.kinds.specs.Limits.{lineSize};
-use crate::fields::VALUE;
 use crate::fields::value_at;
 use kinds::LINE;
 use libc::STDIN_FILENO;
+use wire::VALUE;
 
 // The number of the last operation that is listed.
 const LAST: u64 = 12;

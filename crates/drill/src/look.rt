@@ -1,6 +1,5 @@
-// Operation 6: how the page is judged, what stands in it, and its readers as an image lists them. A value stands in a record as
+// Operation 6: how the page is judged, what stands in it, and its readers as an image lists them. A value stands in a line as
 // one that was withdrawn does.
-use crate::fields::VALUE;
 use kinds::BUCKETS;
 use kinds::CAPACITY;
 use kinds::Count;
@@ -15,6 +14,7 @@ use libc::STDOUT_FILENO;
 use page_record::Page;
 use readers::Readers;
 use requests::Answer;
+use wire::VALUE;
 
 // How many numbers the census has.
 const CENSUS: usize = 12;

@@ -1,7 +1,6 @@
 // The operations, a short function for each that is more than a call.
 ghost use Prim.Native.Nat.{_≤_};
 ghost use lib.ListN.{length};
-use crate::fields::VALUE;
 use crate::fields::byte_at;
 use crate::fields::value_at;
 use crate::lines::NO_MEANING;
@@ -18,6 +17,7 @@ use pieces::Taken;
 use requests::Answer;
 use requests::Request;
 use wire::Reading;
+use wire::VALUE;
 
 // The operation whose buffer takes the answers of a run.
 const RUN: u64 = 4;
@@ -120,7 +120,7 @@ pub fn write(payload: &[u8], buffer: &mut [u8]) {
 pub fn put(page: Page, payload: &[u8]) -> Page {
     if is_known(payload) {
         line(0);
-        return image::decode(payload);
+        return decoding::decode(payload);
     }
     line(NO_MEANING);
     page

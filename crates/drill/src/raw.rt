@@ -1,25 +1,26 @@
-// A page as it stands in the payload, at the places of an image: nothing is judged but whether each number stands for something.
+// A page as it stands in the payload, at the places of an image: nothing is judged but whether each number stands for something,
+// that is, comes back from what it stands for.
 use crate::fields::byte_at;
-use image::CLEAN;
-use image::EXC;
-use image::FLAG;
-use image::IMAGE;
-use image::LOADER;
-use image::READERS;
-use image::STORED;
-use image::WRITEBACK;
+use encoding::CLEAN;
+use encoding::EXC;
+use encoding::FLAG;
+use encoding::IMAGE;
+use encoding::LOADER;
+use encoding::READERS;
+use encoding::STORED;
+use encoding::WRITEBACK;
 use kinds::CAPACITY;
 use kinds::LINE;
+use kinds::MaybeBucket;
+use kinds::Visited;
+use kinds::exc_from;
+use kinds::exc_number;
+use kinds::flag_from;
+use kinds::flag_number;
+use kinds::loading_from;
+use kinds::loading_number;
 
-// The highest numbers that stand for a flag, an editor, a loader and a phase; of an editor's, one below stands for nothing.
-const LAST_FLAG: u8 = 10;
-
-const LAST_EXC: u8 = 5;
-
-const NO_EXC: u8 = 4;
-
-const LAST_LOADER: u8 = 3;
-
+// The highest number that stands for a phase; 0 stands in an entry that is blank.
 const LAST_PHASE: u8 = 3;
 
 // A byte that says yes; no is 0.
@@ -36,10 +37,11 @@ pub fn is_known(payload: &[u8]) -> bool {
         }
     }
     let either = byte_at(payload, STORED) | byte_at(payload, CLEAN) | byte_at(payload, WRITEBACK);
+    let flag = byte_at(payload, FLAG);
     let exc = byte_at(payload, EXC);
-    (byte_at(payload, FLAG) <= LAST_FLAG)
-        & (exc <= LAST_EXC)
-        & (exc != NO_EXC)
-        & (byte_at(payload, LOADER) <= LAST_LOADER)
+    let loader = byte_at(payload, LOADER);
+    (flag_number(flag_from(flag)) == flag)
+        & (exc_number(exc_from(exc, MaybeBucket::None, Visited(0), false, 0)) == exc)
+        & (loading_number(loading_from(loader, MaybeBucket::None)) == loader)
         & (either <= YES)
 }

@@ -1,5 +1,5 @@
 -- The transitions of the archive, of claims and of the editor on the head, steps 1 to 10 and 18, in the source's order and by its
--- names (RULES 3.2). Each lists its premises in the order of their numbers (RULES 4.1), and then what it leaves. What it looks for in
+-- names, with the changes of RULES 3.2. Each lists its premises in the order of their numbers (RULES 4.1), and then what it leaves. What it looks for in
 -- the list of readers, and whether the list is full, is given to it; what it does to the list is its edit.
 use Prim.Native.Nat.{_+_}
 use mathlib.Core.Bool.{Bool, not}
@@ -81,7 +81,7 @@ takeExcLockCheckRefCount h =
     (withExc (ExcState.Pending (excBucket e) (record { 0 = visited + 1 }) (excClean e) (excValue e)) h)
     Edit.Keep
 
--- 8, line 237: hands the page out, and keeps its value
+-- 8, line 237; changed: it hands the page out, and keeps its value
 abbrev pub withdrawTakeExcLockFinish : Head → Step
 withdrawTakeExcLockFinish h =
     let e = h .«exc_state» in
@@ -89,7 +89,7 @@ withdrawTakeExcLockFinish h =
     (withStorage Storage.Out (withExc (ExcState.Obtained (excBucket e) (excClean e) (excValue e)) h))
     (excValue e)
 
--- 9, line 247
+-- 9, line 247; changed: a clean holder puts in no other value than it keeps
 abbrev pub depositDowngradeExcLock : Head → Request → Bool → Step
 depositDowngradeExcLock h q full =
     let e = h .«exc_state» in
@@ -102,7 +102,7 @@ depositDowngradeExcLock h q full =
     (withFlag Flag.Available (withStorage (Storage.In (q .value)) (withExc ExcState.None h)))
     (Edit.Push (reader (Phase.Obtained (q .value)) (bucketOf (excBucket e))))
 
--- 10, line 257
+-- 10, line 257; changed: likewise
 abbrev pub depositDowngradeExcLockToClaim : Head → Request → Step
 depositDowngradeExcLockToClaim h q =
     let e = h .«exc_state» in
@@ -114,7 +114,7 @@ depositDowngradeExcLockToClaim h q =
     (withFlag Flag.Claimed (withStorage (Storage.In (q .value)) (withExc (ExcState.Claim (excBucket e) (q .value)) h)))
     Edit.Keep
 
--- 18, line 356: an editor that has no bucket gets one, and keeps its value
+-- 18, line 356; changed: an editor that has no bucket gets one, and keeps its value
 abbrev pub excIncCount : Head → Request → Step
 excIncCount h q =
     let e = h .«exc_state» in

@@ -111,7 +111,7 @@ pub fn withdraw_take_exc_lock_finish(h: Head) -> Decision
     withdraw_exc(h, obtained, value)
 }
 
-// 9: the editor puts the page in, and reads on.
+// 9: the editor puts the page in, a clean one as it took it, and reads on.
 pub fn deposit_downgrade_exc_lock(h: Head, q: Request, full: bool) -> Decision
     ensures { λ r. ⌜ r ≡ decided h (depositDowngradeExcLock h q full) ⌝ }
 {
@@ -147,7 +147,7 @@ pub fn deposit_downgrade_exc_lock(h: Head, q: Request, full: bool) -> Decision
     )
 }
 
-// 10: the editor puts the page in, and keeps its claim.
+// 10: the editor puts the page in, a clean one as it took it, and keeps its claim.
 pub fn deposit_downgrade_exc_lock_to_claim(h: Head, q: Request) -> Decision
     ensures { λ r. ⌜ r ≡ decided h (depositDowngradeExcLockToClaim h q) ⌝ }
 {
@@ -174,7 +174,7 @@ pub fn deposit_downgrade_exc_lock_to_claim(h: Head, q: Request) -> Decision
     deposit_exc(h, value, Flag::Claimed, claim, Edit::Keep)
 }
 
-// 18: an editor that has no bucket gets one.
+// 18: an editor that has no bucket gets one, and keeps its version.
 pub fn exc_inc_count(h: Head, q: Request) -> Decision
     ensures { λ r. ⌜ r ≡ decided h (excIncCount h q) ⌝ }
 {

@@ -1,13 +1,15 @@
 -- What is written of each part of a page is read back: a flag, storage, a holder, the counts, a reader. A bucket is read back where it is
 -- below the number of none. Assumes nothing.
 use Prim.Native.Nat.{ℕ, _+_, _*_, _/_, _%_, _<_}
-use mathlib.Core.Bool.{Bool, true, false, cond}
+use mathlib.Core.Bool.{Bool, cond}
 use mathlib.Core.List.{List, [], _∷_}
-use mathlib.Core.Path.{_≡_, refl, ap, _∙_}
+use mathlib.Core.Path.{_≡_, refl, sym, ap, _∙_}
 use native.Mathlib.Omega.{arith}
 use borrow.Author.Tests.{ne-eqb}
-use lib.Dec.{T, eqb, ltb, ltb→lt}
+use lib.Dec.{T, eqb, ltb→lt}
 use lib.ListN.{length}
+use Rattle.laws.proofs.Lists.{four-are}
+use Rattle.laws.proofs.Tests.{byte-back}
 use Rattle.kinds.specs.declared.{Count.Count, Flag.Flag, MaybeBucket.MaybeBucket, Storage.Storage, Phase.Phase}
 use Rattle.kinds.specs.declared.{ExcState.ExcState, LoadingState.LoadingState, WritebackState.WritebackState}
 use Rattle.kinds.specs.Limits.{buckets}
@@ -15,7 +17,7 @@ use Rattle.kinds.specs.Numbers.{flagNumber, storageNumber, bucketNumber, phaseN
 use Rattle.kinds.specs.Numbers.{flagFrom, storageFrom, bucketFrom, phaseFrom, excFrom, loadingFrom, writebackFrom, noBucket}
 use Rattle.page_record.specs.Holders.{validBucket, valueOf, excBucket, excVisited, excClean, excValue, loadingBucket, writebackValue}
 use Rattle.page_record.specs.Pages.{numberAt}
-use Rattle.image.specs.Carried.{phaseValue, excBucketNumber, loadingBucketNumber}
+use Rattle.encoding.specs.Carried.{phaseValue, excBucketNumber, loadingBucketNumber}
 
 pub flag-back : (f : Flag) → flagFrom (flagNumber f) ≡ f
 unfolding flagFrom
@@ -56,10 +58,6 @@ bucket-back (MaybeBucket.At b) t =
     let other : b .0 ≡ noBucket → ⊥ = λ e. omega arith in
     rw (ne-eqb (b .0) noBucket other)
 
-clean-back : (c : Bool) → eqb (cond c 1 0) 1 ≡ c
-clean-back true = refl
-clean-back false = refl
-
 pub exc-back : (e : ExcState) → T (validBucket (excBucket e))
     → excFrom (excNumber e) (bucketFrom (excBucketNumber e)) (excVisited e) (eqb (cond (excClean e) 1 0) 1) (excValue e) ≡ e
 unfolding excFrom
@@ -68,10 +66,10 @@ exc-back (ExcState.Claim m v) t = ap (λ (x : MaybeBucket). ExcState.Claim x v) 
 exc-back (ExcState.PendingAwaitWriteback m v) t = ap (λ (x : MaybeBucket). ExcState.PendingAwaitWriteback x v) (bucket-back m t)
 exc-back (ExcState.Pending m n c v) t =
     ap (λ (x : MaybeBucket). ExcState.Pending x n (eqb (cond c 1 0) 1) v) (bucket-back m t)
-    ∙ ap (λ (x : Bool). ExcState.Pending m n x v) (clean-back c)
+    ∙ ap (λ (x : Bool). ExcState.Pending m n x v) (byte-back c)
 exc-back (ExcState.Obtained m c v) t =
     ap (λ (x : MaybeBucket). ExcState.Obtained x (eqb (cond c 1 0) 1) v) (bucket-back m t)
-    ∙ ap (λ (x : Bool). ExcState.Obtained m x v) (clean-back c)
+    ∙ ap (λ (x : Bool). ExcState.Obtained m x v) (byte-back c)
 
 pub loading-back : (l : LoadingState) → T (validBucket (loadingBucket l))
     → loadingFrom (loadingNumber l) (bucketFrom (loadingBucketNumber l)) ≡ l
@@ -86,12 +84,7 @@ pub counts-back : (cs : List Count) → length cs ≡ buckets
     → _≡_ {A = List Count}
     (record { 0 = numberAt cs 0 } ∷ record { 0 = numberAt cs 1 } ∷ record { 0 = numberAt cs 2 } ∷ record { 0 = numberAt cs 3 } ∷ [])
     cs
-counts-back [] e = absurd (omega arith)
-counts-back (a ∷ []) e = absurd (omega arith)
-counts-back (a ∷ b ∷ []) e = absurd (omega arith)
-counts-back (a ∷ b ∷ c ∷ []) e = absurd (omega arith)
-counts-back (a ∷ b ∷ c ∷ d ∷ []) e = refl
-counts-back (a ∷ b ∷ c ∷ d ∷ x ∷ cs) e = absurd (omega arith)
+counts-back cs e = sym (four-are cs (record { 0 = 0 }) e)
 
 pub length-back : (n : ℕ) → n < 256 * 256 → n % 256 + 256 * ((n / 256) % 256) ≡ n
 length-back n h = omega arith

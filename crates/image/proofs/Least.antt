@@ -1,25 +1,29 @@
 -- Reading an image and writing one give the first number that applies: of 15 and 16 to the bytes (`read-number`), of 1 and 15 to the page
 -- and the buffer (`write-number`). Neither carries a value. Assumes nothing.
 use Prim.Native.Nat.{ℕ}
-use mathlib.Core.Bool.{Bool, false, not, Bool·not-not}
+use mathlib.Core.Bool.{Bool, true, false, not, _&&_, Bool·not-not}
 use mathlib.Core.List.{List, [], _∷_}
 use mathlib.Core.Path.{_≡_, refl, ap, _∙_}
+use mathlib.Core.Logic.{_↔_, _⊎_, _≢_, inl, inr}
+use native.Mathlib.Omega.{arith}
 use lib.Dec.{leb, ltb}
 use lib.ListN.{length}
 use Rattle.laws.specs.Tables.{firstApplying}
 use Rattle.laws.proofs.Orders.{leb-ltb}
+use Rattle.laws.proofs.Tests.{to-true}
 use Rattle.page_record.specs.declared.Page.{Page}
-use Rattle.soundness.specs.Soundness.{soundOf}
-use Rattle.requests.specs.declared.Verdict.{Verdict}
+use Rattle.soundness.specs.Soundness.{soundUnder, soundOf}
+use Rattle.requests.specs.declared.{Refusal.Refusal, Answer.Answer, Verdict.Verdict}
 use Rattle.requests.specs.Answers.{answerNumber, withdraws}
 use Rattle.requests.specs.Premises.{verdict}
 use Rattle.requests.proofs.Verdicts.{verdict-number}
 use Rattle.wire.specs.Buffers.{answerFor}
 use Rattle.wire.proofs.Least.{answer-number, answer-plain}
-use Rattle.image.specs.Images.{wholeSize}
-use Rattle.image.specs.Decoding.{pageFrom}
-use Rattle.image.specs.Keeping.{readable, readVerdict, restoredAs, restoredFrom, keepable, keptAnswer}
+use Rattle.encoding.specs.Images.{wholeSize, shortSize}
+use Rattle.decoding.specs.Decoding.{pageFrom}
+use Rattle.image.specs.Keeping.{knownSize, limitsBy, isImage, readable, readVerdict, restoredAs, restoredFrom, keepable, keptAnswer}
 use Rattle.image.specs.Applies.{applyingRead, applyingWrite}
+use Rattle.image.proofs.Lengths.{known-one, known-none}
 
 -- ---- reading
 restored-answer : (p : Page) (v : Verdict) → restoredAs p v .answer ≡ answerFor v
@@ -38,6 +42,20 @@ module _ (l : List ℕ) where
   unfolding restoredFrom
   read-plain =
       ap withdraws (restored-answer (pageFrom l) (readVerdict (pageFrom l) l)) ∙ answer-plain (readVerdict (pageFrom l) l)
+
+  -- 15 just where they have neither length
+  known-other : (t : Bool) → restoredAs (pageFrom l) (verdict ((Refusal.WrongSize, true) ∷ (Refusal.NotAnImage, t) ∷ [])) .answer
+      ≢ Answer.Refused Refusal.WrongSize
+  known-other true e = let n : _≡_ {A = ℕ} 0 15 = ap answerNumber e in omega arith
+  known-other false e = let n : _≡_ {A = ℕ} 16 15 = ap answerNumber e in omega arith
+
+  pub read-fifteen : (restoredFrom l .answer ≡ Answer.Refused Refusal.WrongSize) ↔ ((length l ≢ wholeSize) × (length l ≢ shortSize))
+  unfolding restoredFrom readVerdict
+  read-fifteen =
+      let image = soundUnder (limitsBy (length l)) (pageFrom l) && isImage (pageFrom l) l in
+      let other : (length l ≡ wholeSize) ⊎ (length l ≡ shortSize) → restoredFrom l .answer ≢ Answer.Refused Refusal.WrongSize =
+      λ one e. known-other image (rw (to-true (knownSize (length l)) (known-one (length l) one)) at e) in
+      (λ e. (λ whole. other (inl whole) e, λ short. other (inr short) e), λ two. rw (known-none (length l) (two .0) (two .1)) refl)
 
 -- ---- writing
 module _ (p : Page) (l : List ℕ) where

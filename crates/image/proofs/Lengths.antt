@@ -1,9 +1,10 @@
 -- What the length of bytes stands for: which limits it gives, that these are among today's, and what is asked under them of a page and of
 -- the bytes. Assumes nothing.
 use Prim.Native.Nat.{ℕ, _≤_}
-use mathlib.Core.Bool.{Bool, true, false, cond, _&&_}
+use mathlib.Core.Bool.{Bool, true, false, cond, _&&_, _||_}
 use mathlib.Core.List.{List}
 use mathlib.Core.Path.{_≡_, sym, ap, _∙_}
+use mathlib.Core.Logic.{_⊎_, _≢_, inl, inr}
 use native.Mathlib.Omega.{arith}
 use borrow.Author.Tests.{ne-eqb}
 use lib.Dec.{T, eqb}
@@ -12,9 +13,9 @@ use Rattle.kinds.specs.Limits.{capacity, ceiling, shortCapacity, Limits, today,
 use Rattle.page_record.specs.declared.Page.{Page}
 use Rattle.soundness.specs.Soundness.{soundUnder, fitsUnder, soundOf}
 use Rattle.soundness.proofs.Under.{sound-under, sound-monotone}
-use Rattle.image.specs.Images.{wholeSize, shortSize, imageOf}
+use Rattle.encoding.specs.Images.{wholeSize, shortSize, imageOf}
 use Rattle.image.specs.Keeping.{sameBytes, knownSize, limitsBy, isImage}
-use Rattle.image.proofs.Rooms.{image-first}
+use Rattle.encoding.proofs.Rooms.{image-first}
 
 -- ---- which limits it gives
 pub by-short : (size : ℕ) → size ≡ shortSize → limitsBy size ≡ short
@@ -45,6 +46,14 @@ known-whole = tt
 pub known-short : T (knownSize shortSize)
 unfolding knownSize
 known-short = tt
+
+pub known-one : (size : ℕ) → (size ≡ wholeSize) ⊎ (size ≡ shortSize) → T (knownSize size)
+known-one size (inl e) = rw e known-whole
+known-one size (inr e) = rw e known-short
+
+pub known-none : (size : ℕ) → size ≢ wholeSize → size ≢ shortSize → knownSize size ≡ false
+unfolding knownSize
+known-none size a b = ap (λ (t : Bool). t || eqb size wholeSize) (ne-eqb size shortSize b) ∙ ne-eqb size wholeSize a
 
 -- ---- what is asked of a page
 pub sound-other : (size : ℕ) (p : Page) → (size ≡ shortSize → ⊥) → soundUnder (limitsBy size) p ≡ soundOf p

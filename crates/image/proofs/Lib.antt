@@ -1,9 +1,4 @@
-pub mod Slices
-pub mod Decoded
 pub mod Compared
-pub mod Listing
-pub mod Heading
-pub mod Rooms
 pub mod Lengths
 pub mod Back
 pub mod Trips

@@ -5,8 +5,8 @@ use Rattle.readers.specs.Listed.{noReaders}
 use Rattle.page_record.specs.Pages.{freshPage}
 use Rattle.soundness.specs.Soundness.{soundOf, lowestBroken}
 use Rattle.wire.specs.Bytes.{lineWith}
-use Rattle.image.specs.Images.{kindBytes, countBytes, valueBytes, entries, imageOf}
-use Rattle.image.specs.Decoding.{u64At, excFromBytes, headFrom, readerFrom, readersFrom, pageFrom}
+use Rattle.encoding.specs.Images.{kindBytes, countBytes, valueBytes, entries, imageOf}
+use Rattle.decoding.specs.Decoding.{u64At, excFromBytes, headFrom, readerFrom, readersFrom, pageFrom}
 use Rattle.image.specs.Keeping.{knownSize, limitsBy, isImage, readVerdict, restoredFrom, keptAnswer}
 use Rattle.image.specs.Samples.{shown}
 

@@ -14,9 +14,9 @@ use Rattle.page_record.specs.declared.Page.{Page}
 use Rattle.soundness.specs.Soundness.{soundUnder, fitsUnder, soundOf}
 use Rattle.soundness.proofs.Under.{sound-under}
 use Rattle.wire.specs.Bytes.{Bytes}
-use Rattle.image.specs.Images.{wholeSize, shortSize, shortBy, imageOf, lengthened, InRange}
+use Rattle.encoding.specs.Images.{wholeSize, shortSize, shortBy, imageOf, lengthened, InRange}
 use Rattle.image.specs.Keeping.{limitsBy, restored, restoredFrom}
-use Rattle.image.proofs.Rooms.{image-first}
+use Rattle.encoding.proofs.Rooms.{image-first}
 use Rattle.image.proofs.Lengths.{by-short, by-whole, sound-today}
 use Rattle.image.proofs.Trips.{parted, in-range, accepted, write-read, write-read-short, read-write}
 

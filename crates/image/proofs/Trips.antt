@@ -12,6 +12,7 @@ use lib.Dec.{T, eqb, leb→le}
 use lib.ListN.{length, take, drop, getD, replicate, length-take}
 use lib.Seq.{drop-at}
 use Rattle.laws.proofs.Tests.{to-true, is-true, both, halves, and-iff}
+use Rattle.laws.proofs.Lists.{each-take}
 use Rattle.kinds.specs.declared.{Visited.Visited, MaybeBucket.MaybeBucket, Storage.Storage, Phase.Phase, Reader.Reader}
 use Rattle.kinds.specs.declared.{ExcState.ExcState, WritebackState.WritebackState}
 use Rattle.kinds.specs.Limits.{lineSize, capacity, ceiling, shortCapacity, Limits, today, short}
@@ -33,17 +34,17 @@ use Rattle.requests.proofs.Verdicts.{passed}
 use Rattle.wire.specs.Bytes.{valueLimit, Bytes, number, lowBytes, lineWith}
 use Rattle.wire.proofs.Bytes.{number-lowBytes, number-below, bytes-take, bytes-drop}
 use Rattle.wire.proofs.Stores.{length-line-with}
-use Rattle.image.specs.Carried.{phaseValue, excBucketNumber, loadingBucketNumber}
-use Rattle.image.specs.Images.{headSize, imageSize, wholeSize, shortSize, kindBytes, countBytes, valueBytes, entryOf, entries}
-use Rattle.image.specs.Images.{imageOf, InRange}
-use Rattle.image.specs.Decoding.{u64At, excFromBytes, headFrom, lengthFrom, readerFrom, readersFrom, pageFrom}
+use Rattle.encoding.specs.Carried.{phaseValue, excBucketNumber, loadingBucketNumber}
+use Rattle.encoding.specs.Images.{headSize, imageSize, wholeSize, shortSize, kindBytes, countBytes, valueBytes, entryOf, entries}
+use Rattle.encoding.specs.Images.{imageOf, InRange}
+use Rattle.decoding.specs.Decoding.{u64At, excFromBytes, headFrom, lengthFrom, readerFrom, readersFrom, pageFrom}
 use Rattle.image.specs.declared.Restored.{Restored}
 use Rattle.image.specs.Keeping.{sameBytes, knownSize, limitsBy, isImage, ImageUnder, readable, readVerdict}
 use Rattle.image.specs.Keeping.{restored, restoredAs, restoredFrom}
 use Rattle.image.specs.Applies.{isSoundImage}
 use Rattle.image.proofs.Back.{flag-back, storage-back, writeback-back, phase-back, exc-back, loading-back, counts-back, length-back}
 use Rattle.image.proofs.Compared.{same-equal, same-refl}
-use Rattle.image.proofs.Rooms.{length-image, image-longer}
+use Rattle.encoding.proofs.Rooms.{length-image, image-longer}
 use Rattle.image.proofs.Lengths.{by-short, by-whole, within-today, known-whole, known-short, sound-today}
 
 -- ---- the head of an image is the page's
@@ -228,19 +229,14 @@ readers-below zero l bytes i = omega arith
 readers-below (suc n) l bytes zero = phase-below (getD l 0 0) (u64At 8 l) (u64-below l bytes 8)
 readers-below (suc n) l bytes (suc i) = readers-below n (drop lineSize l) (bytes-drop lineSize l bytes) i
 
-ranged-take : (n : ℕ) (l : List Reader) → Ranged l → Ranged (take n l)
-ranged-take zero l r i = omega arith
-ranged-take (suc n) [] r i = omega arith
-ranged-take (suc n) (x ∷ l) r zero = r 0
-ranged-take (suc n) (x ∷ l) r (suc i) = ranged-take n l (λ j. r (suc j)) i
-
 pub in-range : (l : List ℕ) → Bytes l → InRange (pageFrom l)
 unfolding pageFrom headFrom excFromBytes
 in-range l bytes = record {
   stored = storage-below (getD l 1 0) (u64At 32 l) (u64-below l bytes 32);
   held = exc-below (getD l 4 0) (bucketFrom (getD l 5 0)) (record { 0 = getD l 6 0 }) (eqb (getD l 7 0) 1) (u64At 40 l) (u64-below l bytes 40);
   written = writeback-below (getD l 10 0) (u64At 48 l) (u64-below l bytes 48);
-  read = ranged-take (lengthFrom l) (readersFrom capacity (drop headSize l))
+  read = each-take (λ r. phaseValue (r .phase) < valueLimit) blankReader (omega arith) (lengthFrom l)
+      (readersFrom capacity (drop headSize l))
       (readers-below capacity (drop headSize l) (bytes-drop headSize l bytes));
 }
 

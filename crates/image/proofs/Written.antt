@@ -1,30 +1,23 @@
 -- What writing an image comes to, by what its code finds out: 1, then 15, else the image over the first bytes of the buffer. And what
 -- the buffer holds then: the image first, what stood past it as it was, and all of it as it was where the writing is refused. Assumes
 -- nothing.
-use Prim.Native.Nat.{ℕ, _-_, _<_, _≤_}
+use Prim.Native.Nat.{ℕ, _<_, _≤_}
 use mathlib.Core.Bool.{true, false}
 use mathlib.Core.List.{List, _++_}
-use mathlib.Core.Path.{_≡_, refl, ap, _∙_}
-use native.Mathlib.Omega.{arith}
+use mathlib.Core.Path.{_≡_, refl, ap}
 use borrow.Author.Tests.{le-leb, lt-leb}
-use borrow.Rule.Slice.PartMut.{putMid}
 use lib.ListN.{length, drop}
-use lib.Seq.{drop-at}
 use Rattle.kinds.specs.Limits.{capacity}
 use Rattle.page_record.specs.declared.Page.{Page}
 use Rattle.soundness.specs.Soundness.{soundOf}
 use Rattle.requests.specs.declared.{Refusal.Refusal, Answer.Answer, Verdict.Verdict}
 use Rattle.requests.specs.Premises.{verdict}
+use Rattle.wire.specs.Buffers.{leaves}
+use Rattle.wire.proofs.Buffers.{leaves-past}
 use Rattle.wire.proofs.Premises.{answer-passed, answer-failed}
-use Rattle.image.specs.Images.{wholeSize, imageOf}
-use Rattle.image.specs.Keeping.{keepable, keptAnswer, filledAs, keptIn}
-use Rattle.image.proofs.Rooms.{length-image}
-
--- what is put over the first part of a slice
-pub first-part : (size : ℕ) (old ys bytes : List ℕ) → ys ≡ bytes → putMid 0 (size - 0) old ys ≡ bytes ++ drop size old
-first-part size old ys bytes e =
-    let w : size - 0 ≡ size = omega arith in
-    ap (λ (z : List ℕ). z ++ drop (size - 0) old) e ∙ ap (λ (n : ℕ). bytes ++ drop n old) w
+use Rattle.encoding.specs.Images.{wholeSize, imageOf}
+use Rattle.image.specs.Keeping.{keepable, keptAnswer, keptIn}
+use Rattle.encoding.proofs.Rooms.{length-image}
 
 module _ (p : Page) (l : List ℕ) where
   pub write-unsound : soundOf p ≡ false → (Answer.Refused Refusal.Unsound ≡ keptAnswer p l) × (l ≡ keptIn p l)
@@ -42,25 +35,21 @@ module _ (p : Page) (l : List ℕ) where
   write-whole s h = simp (s, le-leb wholeSize (length l) h) (refl, refl)
 
 -- ---- what the buffer holds then
-past : (bytes l : List ℕ) → length bytes ≡ wholeSize → drop wholeSize (bytes ++ drop wholeSize l) ≡ drop wholeSize l
-past bytes l h = drop-at bytes (drop wholeSize l) wholeSize h
-
 module _ (p : Page) (l : List ℕ) where
+  abbrev left : Verdict → List ℕ
+  left v = leaves wholeSize v (imageOf capacity p) l
+
   -- what is refused touches nothing
   pub write-untouched : (why : Refusal) → keptAnswer p l ≡ Answer.Refused why → keptIn p l ≡ l
   unfolding keptAnswer keptIn
-  write-untouched why e = ap (filledAs p l) (answer-failed (verdict (keepable p l)) why e)
+  write-untouched why e = ap left (answer-failed (verdict (keepable p l)) why e)
 
   -- what is accepted stands in the first bytes,
   pub write-first : keptAnswer p l ≡ Answer.Accepted → keptIn p l ≡ imageOf capacity p ++ drop wholeSize l
   unfolding keptAnswer keptIn
-  write-first e = ap (filledAs p l) (answer-passed (verdict (keepable p l)) e)
+  write-first e = ap left (answer-passed (verdict (keepable p l)) e)
 
   -- and changes no other
   pub write-past : drop wholeSize (keptIn p l) ≡ drop wholeSize l
   unfolding keptIn
-  write-past = go (verdict (keepable p l))
-    where
-      go : (v : Verdict) → drop wholeSize (filledAs p l v) ≡ drop wholeSize l
-      go Verdict.Passed = past (imageOf capacity p) l (length-image capacity p)
-      go (Verdict.Failed why) = refl
+  write-past = leaves-past wholeSize (imageOf capacity p) l (verdict (keepable p l)) (λ e. length-image capacity p)

@@ -8,8 +8,8 @@ use lib.Dec.{ltb}
 use lib.ListN.{length}
 use Rattle.page_record.specs.declared.Page.{Page}
 use Rattle.soundness.specs.Soundness.{soundUnder, soundOf}
-use Rattle.image.specs.Images.{wholeSize}
-use Rattle.image.specs.Decoding.{pageFrom}
+use Rattle.encoding.specs.Images.{wholeSize}
+use Rattle.decoding.specs.Decoding.{pageFrom}
 use Rattle.image.specs.Keeping.{knownSize, limitsBy, isImage}
 
 -- the bytes are the image of a page that is sound under the limits of their length

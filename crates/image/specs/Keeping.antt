@@ -2,19 +2,19 @@
 use Prim.Native.Nat.{ℕ}
 use mathlib.Core.Path.{_≡_}
 use mathlib.Core.Bool.{Bool, true, false, cond, _&&_, _||_}
-use mathlib.Core.List.{List, [], _∷_, _++_}
+use mathlib.Core.List.{List, [], _∷_}
 use lib.Dec.{T, eqb, leb}
-use lib.ListN.{length, drop}
+use lib.ListN.{length}
 use Rattle.kinds.specs.Limits.{capacity, Limits, today, short}
 use Rattle.page_record.specs.declared.Page.{Page}
 use Rattle.page_record.specs.Pages.{freshPage}
 use Rattle.soundness.specs.Soundness.{soundUnder, soundOf}
 use Rattle.requests.specs.declared.{Refusal.Refusal, Answer.Answer, Verdict.Verdict}
 use Rattle.requests.specs.Premises.{verdict}
-use Rattle.wire.specs.Buffers.{answerFor}
+use Rattle.wire.specs.Buffers.{answerFor, leaves}
 use Rattle.image.specs.declared.Restored.{Restored}
-use Rattle.image.specs.Images.{wholeSize, shortSize, imageOf, InRange}
-use Rattle.image.specs.Decoding.{pageFrom}
+use Rattle.encoding.specs.Images.{wholeSize, shortSize, imageOf, InRange}
+use Rattle.decoding.specs.Decoding.{pageFrom}
 
 -- ---- bytes that are the same
 abbrev pub sameBytes : List ℕ → List ℕ → Bool
@@ -72,9 +72,5 @@ unfoldable pub keptAnswer : Page → List ℕ → Answer
 keptAnswer p l = answerFor (verdict (keepable p l))
 
 -- the image over the first bytes of the buffer; a refusal leaves it untouched
-abbrev pub filledAs : Page → List ℕ → Verdict → List ℕ
-filledAs p l Verdict.Passed = imageOf capacity p ++ drop wholeSize l
-filledAs p l (Verdict.Failed why) = l
-
 unfoldable pub keptIn : Page → List ℕ → List ℕ
-keptIn p l = filledAs p l (verdict (keepable p l))
+keptIn p l = leaves wholeSize (verdict (keepable p l)) (imageOf capacity p) l

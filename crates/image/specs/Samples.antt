@@ -1,4 +1,4 @@
--- Pages, and the bytes of their images: a fresh one, each kind of holder, with a bucket and without, and a reader of each phase. The bytes
+-- Pages, and the bytes of their images: a fresh one, each kind of holder, some with a bucket and some without, and a reader of each phase. The bytes
 -- are those of short images, and zeros make them images of today's length: for two that is computed too, for all it is proved
 -- (`image-longer`). And bytes that are read, and pages that are written, with their numbers. That it is so is computed (proofs/Samples.antt).
 use Prim.Native.Nat.{ℕ, zero, suc, _+_, _-_, _/_, _%_}
@@ -9,13 +9,13 @@ use lib.ListN.{length, drop, replicate}
 use Rattle.laws.specs.Lists.{every}
 use Rattle.kinds.specs.declared.{Count.Count, Flag.Flag, MaybeBucket.MaybeBucket, Storage.Storage, Phase.Phase}
 use Rattle.kinds.specs.declared.{ExcState.ExcState, LoadingState.LoadingState, WritebackState.WritebackState}
-use Rattle.kinds.specs.Limits.{buckets, capacity, shortCapacity, shortCeiling, short}
+use Rattle.kinds.specs.Limits.{buckets, capacity, ceiling, shortCapacity, shortCeiling, short}
 use Rattle.readers.specs.Listed.{listed}
 use Rattle.page_record.specs.declared.Page.{Page}
 use Rattle.page_record.specs.Pages.{headWith, pageOf, freshPage}
 use Rattle.soundness.specs.Soundness.{soundUnder, soundOf}
 use Rattle.requests.specs.Answers.{answerNumber}
-use Rattle.image.specs.Images.{wholeSize, shortSize, shortBy, imageOf, lengthened}
+use Rattle.encoding.specs.Images.{wholeSize, shortSize, shortBy, imageOf, lengthened}
 use Rattle.image.specs.Keeping.{sameBytes, restoredFrom, keptAnswer}
 
 -- ---- images
@@ -24,7 +24,7 @@ pub record Sample : Type 0 where
   pub bytes : List ℕ
 
 -- bytes, and zeros up to the length of a short image
-abbrev padded : List ℕ → List ℕ
+abbrev pub padded : List ℕ → List ℕ
 padded l = l ++ replicate (shortSize - length l) 0
 
 abbrev none : MaybeBucket
@@ -152,13 +152,17 @@ abbrev waitingFrom : ℕ → ℕ → ℕ → List ℕ
 waitingFrom zero b last = []
 waitingFrom (suc n) b last = (1 ∷ b ∷ []) ++ replicate 14 0 ++ waitingFrom n (cond (eqb b last) 0 (b + 1)) last
 
-abbrev crowd : ℕ → ℕ → List ℕ → List ℕ
-crowd n last cs =
+abbrev pub crowdBytes : ℕ → ℕ → List ℕ → List ℕ
+crowdBytes n last cs =
     (0 ∷ 1 ∷ n % 256 ∷ n / 256 ∷ []) ++ replicate 12 0 ++ cs ++ replicate (48 - length cs) 0 ++ waitingFrom n 0 last
 
 -- an equal share of n at each bucket
 abbrev shares : ℕ → List ℕ
 shares n = replicate buckets (n / buckets)
+
+-- these bytes, and zeros up to the length of an image
+abbrev lengthenedBy : List ℕ → List ℕ
+lengthenedBy l = l ++ replicate (wholeSize - length l) 0
 
 -- ---- bytes that are read, and their number
 pub record Reading : Type 0 where
@@ -173,14 +177,18 @@ readings =
     ∷ record { bytes = 0 ∷ 1 ∷ replicate (wholeSize - 3) 0; number = 15 }
     ∷ record { bytes = 0 ∷ 1 ∷ replicate (wholeSize - 1) 0; number = 15 }
     -- a bucket at the short ceiling; one above it is too much for a short image, and not for one of today's
-    ∷ record { bytes = padded (crowd shortCeiling 0 (shortCeiling ∷ [])); number = 0 }
-    ∷ record { bytes = padded (crowd (shortCeiling + 1) 0 ((shortCeiling + 1) ∷ [])); number = 16 }
-    ∷ record { bytes = lengthened (padded (crowd (shortCeiling + 1) 0 ((shortCeiling + 1) ∷ []))); number = 0 }
+    ∷ record { bytes = padded (crowdBytes shortCeiling 0 (shortCeiling ∷ [])); number = 0 }
+    ∷ record { bytes = padded (crowdBytes (shortCeiling + 1) 0 ((shortCeiling + 1) ∷ [])); number = 16 }
+    ∷ record { bytes = lengthened (padded (crowdBytes (shortCeiling + 1) 0 ((shortCeiling + 1) ∷ []))); number = 0 }
     -- as many readers as a short image has room for; and one more, for whom it would have no entry but zeros
-    ∷ record { bytes = crowd shortCapacity 3 (shares shortCapacity); number = 0 }
-    ∷ record { bytes = 0 ∷ 1 ∷ (shortCapacity + 1) ∷ drop 3 (crowd shortCapacity 3 (17 ∷ 16 ∷ 16 ∷ 16 ∷ [])); number = 16 }
+    ∷ record { bytes = crowdBytes shortCapacity 3 (shares shortCapacity); number = 0 }
+    ∷ record { bytes = 0 ∷ 1 ∷ (shortCapacity + 1) ∷ drop 3 (crowdBytes shortCapacity 3 (17 ∷ 16 ∷ 16 ∷ 16 ∷ [])); number = 16 }
     -- as many as a record can list: the length is 0 in byte 2 and 1 in byte 3
-    ∷ record { bytes = crowd capacity 3 (shares capacity); number = 0 }
+    ∷ record { bytes = crowdBytes capacity 3 (shares capacity); number = 0 }
+    -- one more than that, by the length alone; a bucket above today's ceiling
+    ∷ record { bytes = 0 ∷ 1 ∷ 1 ∷ 1 ∷ drop 4 (crowdBytes capacity 3 (shares capacity)); number = 16 }
+    ∷ record { bytes = lengthenedBy (crowdBytes ceiling 0 (ceiling ∷ [])); number = 0 }
+    ∷ record { bytes = lengthenedBy (crowdBytes (ceiling + 1) 0 ((ceiling + 1) ∷ [])); number = 16 }
     -- zeros alone: the page is out, and nobody has it
     ∷ record { bytes = lengthened (padded []); number = 16 }
     ∷ record { bytes = padded []; number = 16 }

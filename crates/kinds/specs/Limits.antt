@@ -1,4 +1,4 @@
--- The limits (RULES 2, rule 8, and 4.1), each once. The code's constants of the same names stand in src/lib.rt.
+-- The limits (RULES 2, rule 8, and 4.1), each once. The code's constants stand in src/lib.rt, by the same names (`lineSize` is `LINE`).
 use Prim.Native.Nat.{ℕ}
 
 -- how many buckets there are (the source's RC_WIDTH, line 40): a bucket is below it, a visited number at most it

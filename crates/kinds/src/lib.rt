@@ -58,7 +58,7 @@ pub struct Bucket(pub u8);
 // How many buckets an editor has looked at, 0 to 4.
 pub struct Visited(pub u8);
 
-// How many hold a bucket, 0 to 127.
+// How many hold a bucket, up to the ceiling.
 pub struct Count(pub u8);
 
 pub enum Flag {

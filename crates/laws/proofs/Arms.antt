@@ -1,6 +1,6 @@
 -- What the last arm of a `match` on a number is told: that it is none of the numbers of the arms above (`NoneOf`, the latest
 -- first). So it is past them where they are 0, 1, .. (`past`), and what a list has there is as if it had nothing at their
--- places (`elsewhere`, `every-same`). Assumes nothing.
+-- places (`elsewhere`, `copies-at`). Assumes nothing.
 use Prim.Native.Nat.{ℕ, zero, suc, _≤_, zero-le}
 use mathlib.Core.List.{List, [], _∷_}
 use mathlib.Core.Path.{_≡_, refl, _∙_}
@@ -40,7 +40,7 @@ module _ {A : Type 0} where
   elsewhere xs (p ∷ ps) n d none =
       getD-set-other (puts xs ps) (p .0) n (p .1) d (none .1) ∙ elsewhere xs ps n d (none .0)
 
-  pub every-same : (k n : ℕ) (a : A) → getD (replicate k a) n a ≡ a
-  every-same zero n a = refl
-  every-same (suc k) zero a = refl
-  every-same (suc k) (suc n) a = every-same k n a
+  pub copies-at : (k n : ℕ) (a : A) → getD (replicate k a) n a ≡ a
+  copies-at zero n a = refl
+  copies-at (suc k) zero a = refl
+  copies-at (suc k) (suc n) a = copies-at k n a

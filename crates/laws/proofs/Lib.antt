@@ -2,6 +2,8 @@ pub mod Tests
 pub mod Orders
 pub mod Lists
 pub mod Turns
+pub mod Parts
+pub mod Cuts
 pub mod Arms
 pub mod Pick
 pub mod Firsts

@@ -1,7 +1,7 @@
 -- Laws of `tally`, `every` and `without`, over any element type: what each says after the list grows, loses or changes an
 -- entry. In order: `without`, its length, at a seam, past the end, and in an array (`filled`); `every` of two lists and of parts, after
--- each change, at an entry, and of two tests; `tally` of two lists, after each change, and what it says of the entries.
--- `set` at a seam is `set-append-seam` of lib.Seq. Assumes nothing.
+-- each change, at an entry, and of two tests; `tally` of two lists, after each change, and what it says of the entries; each entry
+-- of a part, and of a list of four. `set` at a seam is `set-append-seam` of lib.Seq. Assumes nothing.
 use Prim.Native.Nat.{ℕ, zero, suc, _+_, _-_, _<_, _≤_}
 use mathlib.Core.Path.{_≡_, refl, ap, _∙_}
 use mathlib.Core.Bool.{Bool, true, false, cond, not, _&&_}
@@ -136,6 +136,15 @@ module _ {A : Type 0} where
     every-replicate zero x t = tt
     every-replicate (suc n) x t = both (test x) (every test (replicate n x)) t (every-replicate n x t)
 
+    -- entries that all pass a test which x alone passes are copies of x
+    pub every-only : (x : A) → ((y : A) → T (test y) → y ≡ x) → (l : List A) → T (every test l) → l ≡ replicate (length l) x
+    every-only x only [] t = refl
+    every-only x only (y ∷ l) t =
+        let h = halves (test y) (every test l) t in
+        let e = only y (h .0) in
+        let f = every-only x only l (h .1) in
+        cc
+
   -- two tests: one that follows from the other, and both at once
   module _ (f g : A → Bool) where
     pub every-mono : (l : List A) → ((x : A) → T (f x) → T (g x)) → T (every f l) → T (every g l)
@@ -195,3 +204,21 @@ module _ {A : Type 0} where
 
     pub tally-positive : (l : List A) (i : ℕ) (d : A) → i < length l → T (test (getD l i d)) → 1 ≤ tally test l
     tally-positive l i d h t = omega (arith, tally-without l i d h, one-is (test (getD l i d)) t)
+
+  -- ---- entries
+  -- what holds of each entry and of the default holds of each entry of a part
+  pub each-take : (P : A → Type 0) (d : A) → P d → (n : ℕ) (l : List A) → ((i : ℕ) → P (getD l i d))
+      → (i : ℕ) → P (getD (take n l) i d)
+  each-take P d p zero l each i = p
+  each-take P d p (suc n) [] each i = p
+  each-take P d p (suc n) (x ∷ l) each zero = each 0
+  each-take P d p (suc n) (x ∷ l) each (suc i) = each-take P d p n l (λ j. each (suc j)) i
+
+  -- a list of four is its four entries
+  pub four-are : (l : List A) (d : A) → length l ≡ 4 → l ≡ getD l 0 d ∷ getD l 1 d ∷ getD l 2 d ∷ getD l 3 d ∷ []
+  four-are [] d e = absurd (omega arith)
+  four-are (w ∷ []) d e = absurd (omega arith)
+  four-are (w ∷ x ∷ []) d e = absurd (omega arith)
+  four-are (w ∷ x ∷ y ∷ []) d e = absurd (omega arith)
+  four-are (w ∷ x ∷ y ∷ z ∷ []) d e = refl
+  four-are (w ∷ x ∷ y ∷ z ∷ v ∷ l) d e = absurd (omega arith)

@@ -1,6 +1,6 @@
 -- Two lists that differ in their order alone (`Rearranged`) are as long, agree on what every entry passes, and stay such two where the
 -- same entry is put at the end, exchanged for another or taken out, wherever it stands in the one and in the other. Assumes nothing.
-use Prim.Native.Nat.{ℕ, _+_, _<_}
+use Prim.Native.Nat.{ℕ, _<_}
 use mathlib.Core.Path.{_≡_, refl, sym, ap, _∙_}
 use mathlib.Core.Bool.{Bool, true, false, cond}
 use mathlib.Core.List.{List, [], _∷_, _++_}

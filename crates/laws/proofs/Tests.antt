@@ -1,13 +1,14 @@
 -- A test that passes, as a type (`T` of lib.Dec) and as an equation: from one to the other (`is-true` .. `to-false`), a test of
--- two parts (`both`, `halves`, `and-iff`, `parts-true`), two tests that agree (`alike`), a test `if !f(..)` from what f
--- ensures of its result (`fails-by`, `holds-by`), and a test as a byte (`byte-is`). Assumes nothing.
+-- two parts (`both`, `halves`, `and-iff`, `parts-true`), one that is denied (`not-both`, `not-either`), two tests that agree
+-- (`alike`), a test `if !f(..)` from what f ensures of its result (`fails-by`, `holds-by`), and a test as a byte (`byte-is`) and
+-- back (`byte-back`). Assumes nothing.
 use Prim.Native.Nat.{ℕ}
 use mathlib.Core.Path.{_≡_, refl, sym, subst, _∙_}
 use mathlib.Core.Logic.{_↔_}
-use mathlib.Core.Bool.{Bool, true, false, not, cond, _&&_, Bool·beq, false≢true}
+use mathlib.Core.Bool.{Bool, true, false, not, cond, _&&_, _||_, Bool·beq, false≢true}
 use mir.Val.{boolByte}
 use borrow.Author.Tests.{not-true, not-false}
-use lib.Dec.{T}
+use lib.Dec.{T, eqb}
 
 -- ---- a type and an equation
 pub is-true : {t : Bool} → t ≡ true → T t
@@ -41,6 +42,15 @@ pub parts-true : (a b : Bool) → (a && b) ≡ true → (a ≡ true) × (b ≡ t
 parts-true true b e = (refl, e)
 parts-true false b e = absurd (false≢true e)
 
+-- denied
+pub not-both : (a b : Bool) → not (a && b) ≡ (not a || not b)
+not-both true b = refl
+not-both false b = refl
+
+pub not-either : (a b : Bool) → not (a || b) ≡ (not a && not b)
+not-either true b = refl
+not-either false b = refl
+
 -- ---- two tests that agree
 pub alike : (a b : Bool) → T (Bool·beq a b) → a ≡ b
 alike true true t = refl
@@ -61,3 +71,8 @@ holds-by {r} e left = sym e ∙ not-false r left
 pub byte-is : (t : Bool) → _≡_ {A = ℕ} (boolByte t) (cond t 1 0)
 byte-is true = refl
 byte-is false = refl
+
+-- and back
+pub byte-back : (t : Bool) → eqb (cond t 1 0) 1 ≡ t
+byte-back true = refl
+byte-back false = refl

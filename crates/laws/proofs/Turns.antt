@@ -1,14 +1,14 @@
--- One turn of each loop over readers, here and in the crates above, as laws over any element type and any list. In order: a
--- look at one entry after the other (`next`, `turn`, with the ends `past` and `past-all`); a count of those that pass a test
--- (`Counting`); whether all pass it (`Passing`). Assumes nothing.
+-- One turn of each loop over a list, here and in the crates above, as laws over any element type and any list. In order: a
+-- look at one entry after the other (`next`, `turn`, with the ends `past` and `past-all`), and a store (`store-next`); a count of
+-- those that pass a test (`Counting`); whether all pass it (`Passing`). Assumes nothing.
 use Prim.Native.Nat.{ℕ, _+_, _<_, _≤_, min}
 use mathlib.Core.Path.{_≡_, _∙_, sym}
 use mathlib.Core.Bool.{Bool, true, false}
-use mathlib.Core.List.{List, [], _∷_}
+use mathlib.Core.List.{List, [], _∷_, _++_}
 use native.Mathlib.Omega.{arith}
 use native.Mathlib.Numerals.{add-one}
-use lib.ListN.{length, take, drop, getD, drop-of-length-le, length-take}
-use lib.Seq.{drop-cons, getD-take}
+use lib.ListN.{length, take, drop, getD, set, drop-of-length-le, length-take}
+use lib.Seq.{drop-cons, getD-take, take-suc-set, append-snoc}
 use Rattle.laws.specs.Lists.{tally, every}
 
 -- n of the first i entries pass: with those that are left, that is the tally of an array's first `len`
@@ -31,6 +31,11 @@ module _ {A : Type 0} where
     turn len h k =
         let w : i < length (take len items) = simp length-take (omega arith) in
         rw (add-one, drop-cons (take len items) i d, getD-take)
+
+  -- what is stored at i is the first of those still to come
+  pub store-next : (items : List A) (i : ℕ) (x : A) (rest : List A) → i < length items
+      → take i items ++ x ∷ rest ≡ take (i + 1) (set items i x) ++ rest
+  store-next items i x rest h = rw (add-one i, take-suc-set items i x) (sym (append-snoc (take i items) x rest))
 
   -- nothing is left past the length, nor past the array's end
   module _ (items : List A) (len i : ℕ) where

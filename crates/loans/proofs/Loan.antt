@@ -1,6 +1,6 @@
 -- A local record that is lent by `&mut` to a function with the contract of Lent.antt's, and read again afterwards:
---     pub fn lend(page: Page, request: Request) -> Outcome {
---         let mut p = page; let a = apply(&mut p, request); Outcome { answer: a, page: p }
+--     pub fn lend(own: Page, request: Request) -> Outcome {
+--         let mut p = own; let a = apply(&mut p, request); Outcome { answer: a, page: p }
 --     }
 -- The walk of that function's MIR, over any record, request and answer; a crate cites it at its own types. Whoever calls
 -- `lend` passes and gets plain values, and needs no walk.

@@ -1,4 +1,5 @@
--- What a holder is, from the test that it passes: one law for each test of specs/Holders.antt, in its order. Assumes nothing.
+-- What a holder is, from the test of specs/Holders.antt that it passes: the exclusive holder, the loader, the writeback; then storage and
+-- the bucket. Assumes nothing.
 use Prim.Native.Nat.{ℕ}
 use mathlib.Core.Path.{_≡_, refl}
 use mathlib.Core.Logic.{_⊎_, inl, inr}

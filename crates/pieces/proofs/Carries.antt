@@ -7,10 +7,12 @@ use mathlib.Core.Bool.{Bool, true, false, cond, _&&_, and-true}
 use mathlib.Core.List.{List, [], _∷_, _++_}
 use native.Mathlib.Omega.{arith}
 use borrow.Author.Tests.{eq-eqb, le-leb, lt-leb}
-use lib.Dec.{eqb, leb, eqb→eq, leb→le}
+use lib.Dec.{T, eqb, leb, eqb→eq, leb→le}
 use lib.ListN.{length, take, drop, replicate, length-append, length-drop, length-replicate, take-append-drop}
-use lib.Seq.{take-all, take-length, take-append-seam, drop-append-seam, length-take-le}
+use lib.Seq.{take-all, take-append-seam, drop-append-seam, length-take-le}
 use Rattle.laws.proofs.Tests.{is-true, to-true, both, halves, parts-true}
+use Rattle.laws.proofs.Lists.{every-replicate}
+use Rattle.laws.proofs.Parts.{copied}
 use Rattle.requests.specs.declared.{Refusal.Refusal, Answer.Answer, Verdict.Verdict}
 use Rattle.requests.specs.Premises.{verdict}
 use Rattle.requests.proofs.Verdicts.{passed as all-hold}
@@ -22,10 +24,6 @@ use Rattle.pieces.specs.declared.Carry.{Carry}
 use Rattle.pieces.specs.Carries.{carrySize, held, carryOf, isValid, isEmpty, endPremises, finishOf}
 
 -- ---- zeros
-blank-zeros : (n : ℕ) → blank (replicate n 0) ≡ true
-blank-zeros zero = refl
-blank-zeros (suc n) = blank-zeros n
-
 drop-zeros : (n m : ℕ) → drop n (replicate {A = ℕ} m 0) ≡ replicate (m - n) 0
 drop-zeros zero m = let e : m ≡ m - 0 = omega arith in ap (λ (k : ℕ). replicate k 0) e
 drop-zeros (suc n) zero = let e : 0 ≡ 0 - suc n = omega arith in ap (λ (k : ℕ). replicate k 0) e
@@ -41,9 +39,7 @@ pub carried-by : (rest bytes : List ℕ) (n : ℕ) → n ≡ length rest
 unfolding carryOf
 carried-by rest bytes n same made =
     let all : bytes ≡ rest ++ replicate (carrySize - length rest) 0 =
-    made
-    ∙ ap (λ (z : List ℕ). z ++ drop (length rest) (replicate carrySize 0)) (take-length rest)
-    ∙ ap (λ (z : List ℕ). rest ++ z) (drop-zeros (length rest) carrySize) in
+    copied rest (replicate carrySize 0) bytes made ∙ ap (λ (z : List ℕ). rest ++ z) (drop-zeros (length rest) carrySize) in
     λ i. record { bytes = all i; len = same i }
 
 module _ (l : List ℕ) where
@@ -55,8 +51,8 @@ module _ (l : List ℕ) where
   unfolding carryOf isValid
   valid-carry h =
       let zeros : List ℕ = replicate (carrySize - length l) 0 in
-      let blanks : blank (drop (length l) (l ++ zeros)) ≡ true =
-      ap blank (drop-append-seam l zeros) ∙ blank-zeros (carrySize - length l) in
+      let blanks : T (blank (drop (length l) (l ++ zeros))) =
+      rw drop-append-seam (every-replicate (λ b. eqb b 0) (carrySize - length l) 0 tt) in
       let n : length zeros ≡ carrySize - length l = length-replicate (carrySize - length l) 0 in
       let fifteen : length (l ++ zeros) ≡ carrySize = omega (arith, length-append l zeros) in
       let full = is-true (eq-eqb (length (l ++ zeros)) carrySize fifteen) in
@@ -64,7 +60,7 @@ module _ (l : List ℕ) where
       let claimed = leb (length l) carrySize in
       let rest = blank (drop (length l) (l ++ zeros)) in
       let places = eqb (length (l ++ zeros)) carrySize in
-      to-true (isValid (carryOf l)) (both (claimed && rest) places (both claimed rest few (is-true blanks)) full)
+      to-true (isValid (carryOf l)) (both (claimed && rest) places (both claimed rest few blanks) full)
 
 -- ---- a valid carry
 -- one that claims more than fifteen bytes is not

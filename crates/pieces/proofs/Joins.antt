@@ -1,57 +1,21 @@
 -- Bytes that come in two parts: their requests are those of the first part, and then those of what it leaves with the second
--- (`requests-join`); and what is left at the end is the same (`rest-join`). So it does not matter where they are cut. In order: any
--- width and any number of requests; sixteen bytes and as many as there are. Assumes nothing.
-use Prim.Native.Nat.{ℕ, zero, suc, _+_, _-_, _*_, _/_, _%_, _<_, _≤_}
-use mathlib.Core.Path.{_≡_, refl, sym, ap, _∙_}
-use mathlib.Core.List.{List, [], _∷_, _++_, append-assoc, append-nil}
+-- (`requests-join`); and what is left at the end is the same (`rest-join`). So it does not matter where they are cut (any
+-- width is `cut-join`, in laws). And two parts that are copied into a buffer, one after the other. Assumes nothing.
+use Prim.Native.Nat.{ℕ, _+_, _-_, _*_, _/_, _%_, _<_, _≤_}
+use mathlib.Core.Path.{_≡_, sym, ap, _∙_}
+use mathlib.Core.List.{List, [], _++_, append-assoc, append-nil}
 use native.Mathlib.Omega.{arith}
-use native.Mathlib.Nat.{mul-zero, mul-suc}
-use borrow.Rule.Slice.PartMut.{midOf, putMid, mid-len}
+use borrow.Rule.Slice.PartMut.{midOf, putMid}
 use lib.ListN.{length, take, drop, length-append, length-drop, take-append-drop, drop-of-length-le}
-use lib.Seq.{take-all, take-length, take-at, drop-at, take-append-le, drop-append-le, drop-drop, length-take-le}
+use lib.Seq.{drop-at, drop-drop, length-take-le}
+use Rattle.laws.specs.Lists.{cut}
+use Rattle.laws.proofs.Cuts.{cut-front, cut-join, drop-join}
+use Rattle.laws.proofs.Parts.{rest-is, copied, put-next}
 use Rattle.kinds.specs.Limits.{lineSize}
-use Rattle.replay.specs.Run.{cut, requestsOf}
+use Rattle.replay.specs.Run.{requestsOf}
 use Rattle.pieces.specs.Pieces.{wholeIn, wholeOf, restOf}
 
--- ---- any width
-module _ (w : ℕ) where
-  -- requests that stand whole in the first part are its own
-  cut-front : (k : ℕ) (l m : List ℕ) → w * k ≤ length l → cut w k (l ++ m) ≡ cut w k l
-  cut-front zero l m h = refl
-  cut-front (suc k) l m h =
-      let more = mul-suc w k in
-      let short : w ≤ length l = omega arith in
-      let rest : w * k ≤ length (drop w l) = simp length-drop (omega arith) in
-      ap (λ (x : List ℕ). x ∷ cut w k (drop w (l ++ m))) (take-append-le w l m short)
-      ∙ ap (λ (x : List ℕ). take w l ∷ cut w k x) (drop-append-le w l m short)
-      ∙ ap (λ (x : List (List ℕ)). take w l ∷ x) (cut-front k (drop w l) m rest)
-
-  -- so many requests, and then others
-  cut-two : (k n : ℕ) (l : List ℕ) → cut w (k + n) l ≡ cut w k l ++ cut w n (drop (w * k) l)
-  cut-two zero n l =
-      let e : 0 + n ≡ n = omega arith in
-      ap (λ (x : ℕ). cut w x l) e ∙ ap (λ (x : ℕ). cut w n (drop x l)) (sym (mul-zero w))
-  cut-two (suc k) n l =
-      let e : suc k + n ≡ suc (k + n) = omega arith in
-      let f : w + w * k ≡ w * suc k = simp mul-suc (omega arith) in
-      ap (λ (x : ℕ). cut w x l) e
-      ∙ ap (λ (x : List (List ℕ)). take w l ∷ x) (cut-two k n (drop w l))
-      ∙ ap (λ (x : List ℕ). take w l ∷ (cut w k (drop w l) ++ cut w n x)) (drop-drop (w * k) w l)
-      ∙ ap (λ (x : ℕ). take w l ∷ (cut w k (drop w l) ++ cut w n (drop x l))) f
-
-  -- k requests stand whole in the first part, and n in what it leaves with the second
-  module _ (k n : ℕ) (l m : List ℕ) (h : w * k ≤ length l) where
-    cut-join : cut w (k + n) (l ++ m) ≡ cut w k l ++ cut w n (drop (w * k) l ++ m)
-    cut-join =
-        cut-two k n (l ++ m)
-        ∙ ap (λ (x : List (List ℕ)). x ++ cut w n (drop (w * k) (l ++ m))) (cut-front k l m h)
-        ∙ ap (λ (x : List ℕ). cut w k l ++ cut w n x) (drop-append-le (w * k) l m h)
-
-    drop-join : drop (w * k + w * n) (l ++ m) ≡ drop (w * n) (drop (w * k) l ++ m)
-    drop-join = sym (drop-drop (w * n) (w * k) (l ++ m)) ∙ ap (drop (w * n)) (drop-append-le (w * k) l m h)
-
--- ---- sixteen bytes
--- fewer make no request
+-- fewer than sixteen bytes make no request
 module _ (l : List ℕ) (few : length l < lineSize) where
   pub requests-none : requestsOf l ≡ []
   requests-none = let e : length l / lineSize ≡ 0 = omega arith in ap (λ (n : ℕ). cut lineSize n l) e
@@ -107,34 +71,29 @@ module _ (h piece out mid : List ℕ) (n : ℕ) (wide : length h ≡ n) (room : 
   abbrev rest : List ℕ
   rest = drop n out
 
+  abbrev left : ℕ
+  left = length mid - n
+
   first-is : mid ≡ h ++ rest
-  first-is = first ∙ ap (λ (z : List ℕ). z ++ drop (length h) out) (take-length h) ∙ ap (λ (k : ℕ). h ++ drop k out) wide
-
-  as-long : length mid ≡ length out
-  as-long = ap length first-is ∙ length-append h rest ∙ (let e = length-drop n out in omega arith)
-
-  pub second-room : length piece ≤ length (midOf n (length mid - n) mid)
-  second-room = let e = mid-len n (length mid) mid (omega arith) in omega (arith, as-long)
+  first-is = copied h out mid first ∙ ap (λ (k : ℕ). h ++ drop k out) wide
 
   -- the part is all that is left
-  part-is : midOf n (length mid - n) mid ≡ rest
-  part-is =
-      let e : drop n mid ≡ rest = ap (drop n) first-is ∙ drop-at h rest n wide in
-      let f : length rest ≤ length mid - n = simp length-drop (omega (arith, as-long)) in
-      ap (take (length mid - n)) e ∙ take-all (length mid - n) rest f
+  part-is : midOf n left mid ≡ rest
+  part-is = rest-is n mid ∙ ap (drop n) first-is ∙ drop-at h rest n wide
 
-  pub joined-by : (ys : List ℕ) → ys ≡ take (length piece) piece ++ drop (length piece) (midOf n (length mid - n) mid)
-      → putMid n (length mid - n) mid ys ≡ (h ++ piece) ++ drop (n + length piece) out
+  pub second-room : length piece ≤ length (midOf n left mid)
+  second-room = omega (arith, ap length part-is, length-drop n out)
+
+  pub joined-by : (ys : List ℕ) → ys ≡ take (length piece) piece ++ drop (length piece) (midOf n left mid)
+      → putMid n left mid ys ≡ (h ++ piece) ++ drop (n + length piece) out
   joined-by ys second =
       let second-is : ys ≡ piece ++ drop (length piece) rest =
-      second
-      ∙ ap (λ (z : List ℕ). z ++ drop (length piece) (midOf n (length mid - n) mid)) (take-length piece)
-      ∙ ap (λ (z : List ℕ). piece ++ drop (length piece) z) part-is in
-      let none : drop (length mid - n) (drop n mid) ≡ [] =
-      drop-of-length-le (drop n mid) {i = length mid - n} (simp length-drop (omega arith)) in
-      ap (λ (z : List ℕ). take n mid ++ (ys ++ z)) none
-      ∙ ap (λ (z : List ℕ). take n mid ++ z) (append-nil ys)
-      ∙ ap (λ (z : List ℕ). z ++ ys) (ap (take n) first-is ∙ take-at h rest n wide)
+      copied piece (midOf n left mid) ys second ∙ ap (λ (z : List ℕ). piece ++ drop (length piece) z) part-is in
+      let all : length rest ≤ left = omega (arith, ap length first-is, length-append h rest) in
+      ap (λ (z : List ℕ). putMid n left z ys) first-is
+      ∙ put-next h rest ys n left wide
+      ∙ ap (λ (z : List ℕ). (h ++ ys) ++ z) (drop-of-length-le rest all)
+      ∙ append-nil (h ++ ys)
       ∙ ap (λ (z : List ℕ). h ++ z) second-is
       ∙ sym (append-assoc h piece (drop (length piece) rest))
       ∙ ap (λ (z : List ℕ). (h ++ piece) ++ z) (drop-drop (length piece) n out)

@@ -1,4 +1,4 @@
--- A piece gives the first number that applies to it (`piece-number`), and so does the end (`finish-number`); neither answer carries a
+-- A piece gives the first number that applies to it (`piece-number`), and so does the end (`finish-number`); nnot-both answer carries a
 -- value. Assumes nothing.
 use Prim.Native.Nat.{ℕ, _+_}
 use mathlib.Core.Path.{_≡_, refl, sym, ap, _∙_}
@@ -8,6 +8,7 @@ use borrow.Author.Tests.{eqb-true}
 use lib.Dec.{eqb, ltb, leb}
 use lib.ListN.{length, drop}
 use Rattle.laws.specs.Tables.{firstApplying}
+use Rattle.laws.proofs.Tests.{not-both}
 use Rattle.laws.proofs.Orders.{leb-ltb}
 use Rattle.page_record.specs.declared.Page.{Page}
 use Rattle.soundness.specs.Soundness.{soundOf}
@@ -23,19 +24,14 @@ use Rattle.pieces.specs.Applies.{invalid, applyingPiece, applyingEnd}
 use Rattle.pieces.proofs.Judged.{takes-answer, judged}
 
 -- ---- tests
--- not both is one or the other not
-either : (a b : Bool) → not (a && b) ≡ (not a || not b)
-either true b = refl
-either false b = refl
-
 not-valid : (c : Carry) → not (isValid c) ≡ invalid c
 unfolding isValid
 not-valid c =
     let few = leb (c .len) carrySize in
     let zeros = blank (drop (c .len) (c .bytes)) in
     let places = eqb (length (c .bytes)) carrySize in
-    either (few && zeros) places
-    ∙ ap (λ (t : Bool). t || not places) (either few zeros)
+    not-both (few && zeros) places
+    ∙ ap (λ (t : Bool). t || not places) (not-both few zeros)
     ∙ ap (λ (t : Bool). not t || not zeros || not places) (leb-ltb (c .len) carrySize)
     ∙ ap (λ (t : Bool). t || not zeros || not places) (Bool·not-not (ltb carrySize (c .len)))
 
@@ -56,7 +52,7 @@ not-empty c = go (eqb (c .len) 0) refl
     go true e =
         let none = eqb-true (c .len) 0 e in
         rw e
-        (ap (λ (n : ℕ). not (leb n carrySize && blank (drop n (c .bytes)) && places)) none ∙ either zeros places)
+        (ap (λ (n : ℕ). not (leb n carrySize && blank (drop n (c .bytes)) && places)) none ∙ not-both zeros places)
     go false e = rw e
 
 -- ---- a piece

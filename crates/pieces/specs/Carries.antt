@@ -4,15 +4,16 @@ use mathlib.Core.Bool.{Bool, _&&_}
 use mathlib.Core.List.{List, [], _∷_, _++_}
 use lib.Dec.{eqb, leb}
 use lib.ListN.{length, take, drop, replicate}
+use Rattle.kinds.specs.Limits.{lineSize}
 use Rattle.requests.specs.declared.{Refusal.Refusal, Answer.Answer}
 use Rattle.requests.specs.Premises.{verdict}
 use Rattle.wire.specs.Bytes.{blank}
 use Rattle.wire.specs.Buffers.{answerFor}
 use Rattle.pieces.specs.declared.Carry.{Carry}
 
--- the most bytes that are carried
+-- the most bytes that are carried: one more is a request
 abbrev pub carrySize : ℕ
-carrySize = 15
+carrySize = lineSize - 1
 
 -- the bytes that it carries
 abbrev pub held : Carry → List ℕ

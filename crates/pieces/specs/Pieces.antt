@@ -10,6 +10,7 @@ use Rattle.page_record.specs.declared.Page.{Page}
 use Rattle.soundness.specs.Soundness.{soundOf}
 use Rattle.requests.specs.declared.{Refusal.Refusal, Answer.Answer, Verdict.Verdict}
 use Rattle.requests.specs.Premises.{verdict}
+use Rattle.wire.specs.Buffers.{leaves}
 use Rattle.replay.specs.Run.{requestsOf, pageAfter, linesOf}
 use Rattle.pieces.specs.declared.{Carry.Carry, Taken.Taken}
 use Rattle.pieces.specs.Carries.{held, carryOf, isValid}
@@ -67,9 +68,7 @@ takenOf page c piece answers = takes page c piece (pieceVerdict page c (length p
 
 -- the lines, and what stood past them; a refusal leaves the buffer
 abbrev pub puts : Page → Carry → List ℕ → List ℕ → Verdict → List ℕ
-puts page c piece answers Verdict.Passed =
-    linesOf page (requestsOf (atHand c piece)) ++ drop (wholeIn (length (atHand c piece))) answers
-puts page c piece answers (Verdict.Failed why) = answers
+puts page c piece answers v = leaves (wholeIn (length (atHand c piece))) v (linesOf page (requestsOf (atHand c piece))) answers
 
 unfoldable pub bufferAfter : Page → Carry → List ℕ → List ℕ → List ℕ
 bufferAfter page c piece answers = puts page c piece answers (pieceVerdict page c (length piece) (length answers))

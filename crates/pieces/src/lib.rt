@@ -15,8 +15,8 @@ use requests::Verdict;
 // The most bytes of a piece.
 pub const PIECE: usize = 4_096;
 
-// The most bytes that are carried.
-pub const CARRY: usize = 15;
+// The most bytes that are carried: one more is a request.
+pub const CARRY: usize = LINE - 1;
 
 // The most bytes at hand.
 const AT_HAND: usize = CARRY + PIECE;

@@ -2,7 +2,7 @@
 -- the array of its list (`listed-live`); and what each change does to `listed l` (`pushed-listed`, `put-listed`,
 -- `removed-listed`). No law names the capacity's number. Assumes nothing.
 use Prim.Native.Nat.{ℕ, suc, _+_, _-_, _<_, _≤_}
-use mathlib.Core.Path.{_≡_, refl, sym, _∙_}
+use mathlib.Core.Path.{_≡_, sym, _∙_}
 use mathlib.Core.Bool.{true}
 use mathlib.Core.List.{List, [], _∷_, _++_}
 use native.Mathlib.Omega.{arith}
@@ -10,9 +10,8 @@ use borrow.Author.Tests.{lt-ltb, le-leb}
 use lib.Dec.{T}
 use lib.ListN.{length, drop, set, replicate, length-append, length-drop, length-set, length-replicate, take-append-drop}
 use lib.Seq.{take-append-seam, drop-append-seam, set-append-seam, set-append-left, append-snoc, length-take-le}
-use Rattle.laws.specs.Lists.{every, without}
-use Rattle.laws.proofs.Tests.{halves}
-use Rattle.laws.proofs.Lists.{length-without, every-replicate}
+use Rattle.laws.specs.Lists.{without}
+use Rattle.laws.proofs.Lists.{length-without, every-replicate, every-only}
 use Rattle.kinds.specs.declared.Reader.{Reader}
 use Rattle.kinds.specs.Limits.{capacity}
 use Rattle.readers.specs.declared.Readers.{Readers}
@@ -32,13 +31,6 @@ blank-listed l =
     rw drop-append-seam (every-replicate (sameReader blankReader) (capacity - length l) blankReader (same-refl blankReader))
 
 -- ---- an array that is well kept is the array of its list
--- readers that are all x are copies of x
-same-all : (x : Reader) (l : List Reader) → T (every (sameReader x) l) → l ≡ replicate (length l) x
-same-all x [] t = refl
-same-all x (r ∷ l) t =
-    let h = halves (sameReader x r) (every (sameReader x) l) t in
-    rw (← same-is x r (h .0), ← same-all x l (h .1))
-
 module _ (rs : Readers) (full : length (rs .items) ≡ capacity) (fits : rs .len ≤ capacity) where
   pub length-live : length (live rs) ≡ rs .len
   length-live = length-take-le (rs .len) (rs .items) (omega arith)
@@ -47,7 +39,8 @@ module _ (rs : Readers) (full : length (rs .items) ≡ capacity) (fits : rs .len
   listed-live t =
       let later = drop (rs .len) (rs .items) in
       let n : length later ≡ capacity - length (live rs) = simp (length-drop, length-live) (omega arith) in
-      let rest : later ≡ replicate (capacity - length (live rs)) blankReader = same-all blankReader later t ∙ rw n in
+      let rest : later ≡ replicate (capacity - length (live rs)) blankReader =
+      every-only (sameReader blankReader) blankReader (λ r u. sym (same-is blankReader r u)) later t ∙ rw n in
       let whole : rs .items ≡ listed (live rs) .items = sym (take-append-drop (rs .len) (rs .items)) ∙ rw rest in
       λ i. record { items = whole i; len = sym length-live i }
 

@@ -27,7 +27,7 @@ use Rattle.wire.specs.Applies.{applyingBytes}
 use Rattle.wire.proofs.Least.{read-whole, answer-number, answer-plain}
 use Rattle.wire.proofs.Trips.{accepted}
 use Rattle.replay.specs.Turns.{turnOf}
-use Rattle.replay.specs.Run.{runPremises, runVerdict, ranOf}
+use Rattle.replay.specs.Run.{wholePremises, runVerdict, ranOf}
 use Rattle.replay.specs.Applies.{applyingRun, applyingLine}
 use Rattle.replay.proofs.Judged.{ends-answer}
 use Rattle.replay.proofs.Pages.{turn-read, turn-refused}
@@ -42,7 +42,7 @@ module _ (p : Page) (requests answers : List ℕ) where
       let short = leb-ltb (lineSize * (length requests / lineSize)) (length answers) in
       ap answerNumber (sym (ends-answer p requests v))
       ∙ answer-number v
-      ∙ verdict-number (runPremises p requests answers)
+      ∙ verdict-number (wholePremises (soundOf p) (length requests) (length answers))
       ∙ rw (many, short) (simp Bool·not-not)
 
   pub run-plain : withdraws (ranOf p requests answers .answer) ≡ false

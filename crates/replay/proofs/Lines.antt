@@ -7,12 +7,13 @@ use mathlib.Core.List.{List, [], _∷_, _++_, append-assoc}
 use native.Mathlib.Omega.{arith}
 use native.Mathlib.Nat.{mul-zero, mul-suc, mul-le-mul-left}
 use lib.ListN.{length, take, drop, getD, length-append, length-drop}
-use lib.Seq.{take-at, drop-at, take-append-le, drop-append-le, drop-append-add}
+use lib.Seq.{take-at, take-append-le, drop-append-le, drop-append-add}
 use Rattle.kinds.specs.Limits.{lineSize}
 use Rattle.page_record.specs.declared.Page.{Page}
 use Rattle.requests.specs.declared.{Answer.Answer, Verdict.Verdict}
 use Rattle.wire.specs.Answers.{lineOf}
 use Rattle.wire.proofs.Lines.{length-line}
+use Rattle.wire.proofs.Buffers.{leaves-past, leaves-long}
 use Rattle.replay.specs.Turns.{turnOf}
 use Rattle.replay.specs.Run.{requestsOf, pageAfter, linesOf, lineAt, pageAt, runVerdict, ends, fills, ranOf}
 use Rattle.replay.specs.Run.{answersOf}
@@ -68,19 +69,21 @@ module _ (page : Page) (requests : List ℕ) (space : ℕ) (passed : runVerdict 
   pub requests-fit : length requests ≤ space
   requests-fit = let a = fit passed in omega arith
 
--- its length never changes
+-- however it is judged, its length stays, and so do the bytes past the last line
 module _ (page : Page) (requests answers : List ℕ) where
-  length-fills : (v : Verdict) → runVerdict page (length requests) (length answers) ≡ v
-      → length (fills page requests answers v) ≡ length answers
-  length-fills Verdict.Passed e =
-      let f = lines-fit page requests (length answers) e in
-      let h = requests-fit page requests (length answers) e in
-      simp (length-append, length-drop) (omega arith)
-  length-fills (Verdict.Failed why) e = refl
+  abbrev judged : Verdict
+  judged = runVerdict page (length requests) (length answers)
 
   pub length-answers : length (answersOf page requests answers) ≡ length answers
   unfolding answersOf
-  length-answers = length-fills (runVerdict page (length requests) (length answers)) refl
+  length-answers =
+      leaves-long (length requests) (linesOf page (requestsOf requests)) answers judged
+      (λ e. (lines-fit page requests (length answers) e, requests-fit page requests (length answers) e))
+
+  pub past-lines : drop (length requests) (answersOf page requests answers) ≡ drop (length requests) answers
+  unfolding answersOf
+  past-lines =
+      leaves-past (length requests) (linesOf page (requestsOf requests)) answers judged (lines-fit page requests (length answers))
 
 -- ---- a run that is accepted
 module _ (page : Page) (requests answers : List ℕ) (accepted : ranOf page requests answers .answer ≡ Answer.Accepted) where
@@ -103,10 +106,3 @@ module _ (page : Page) (requests answers : List ℕ) (accepted : ranOf page requ
       ∙ line-in lineSize (length qs) k (linesOf page qs) (drop (length requests) answers) (length-lines page qs) in-range
       ∙ line-of lineSize length-line page qs k in-range
       ∙ ap (λ (q : List ℕ). lineOf (turnOf (pageAt k page requests) q .answer)) (request-at requests k h)
-
-  -- the bytes past the last line stay
-  pub past-lines : drop (length requests) (answersOf page requests answers) ≡ drop (length requests) answers
-  past-lines =
-      ap (drop (length requests)) answers-are
-      ∙ drop-at (linesOf page (requestsOf requests)) (drop (length requests) answers) (length requests)
-      (lines-fit page requests (length answers) (verdict-accepted page requests answers accepted))

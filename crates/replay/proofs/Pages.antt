@@ -1,20 +1,24 @@
 -- The requests of a run, and the pages that they leave: each is answered from the page that those before it left, by a step
--- where its bytes are a request. In order: one request, the requests, the pages. Assumes nothing.
-use Prim.Native.Nat.{ℕ, zero, suc, _+_, _*_, _/_, _<_, _≤_}
+-- where its bytes are a request; a refused one leaves it, and a sound page stays sound. In order: one request, the requests, the
+-- pages. Assumes nothing.
+use Prim.Native.Nat.{ℕ, suc, _/_, _<_, _≤_}
 use mathlib.Core.Path.{_≡_, refl, ap, _∙_}
 use mathlib.Core.List.{List, [], _∷_, _++_}
 use native.Mathlib.Omega.{arith}
-use native.Mathlib.Nat.{mul-zero, mul-suc}
-use lib.ListN.{length, take, drop, getD}
-use lib.Seq.{take-all, take-suc, drop-drop}
+use lib.Dec.{T}
+use lib.ListN.{length, take, getD}
+use lib.Seq.{take-all, take-suc}
+use Rattle.laws.proofs.Cuts.{length-cut, cut-at}
 use Rattle.kinds.specs.Limits.{lineSize}
 use Rattle.page_record.specs.declared.Page.{Page}
-use Rattle.requests.specs.declared.{Refusal.Refusal, Request.Request}
+use Rattle.soundness.specs.Soundness.{soundOf}
+use Rattle.requests.specs.declared.{Refusal.Refusal, Answer.Answer, Request.Request}
 use Rattle.lock.specs.Step.{refusedBy, stepOf}
+use Rattle.lock.proofs.Keeps.{step-keeps, refused-keeps-all}
 use Rattle.wire.specs.declared.Reading.{Reading}
 use Rattle.wire.specs.Requests.{readOf}
 use Rattle.replay.specs.Turns.{onReading, turnOf}
-use Rattle.replay.specs.Run.{cut, requestsOf, pageAfter, lineAt, pageAt}
+use Rattle.replay.specs.Run.{requestsOf, pageAfter, lineAt, pageAt}
 
 -- ---- one request
 -- what the reader accepts is answered by a step, and what it refuses is refused for its reason
@@ -27,18 +31,25 @@ module _ (page : Page) (bytes : List ℕ) where
   unfolding turnOf
   turn-refused why e = ap (onReading page) e
 
+  -- one that is refused leaves the page, whether the reader or the step refused it
+  pub refused-turn : (why : Refusal) → turnOf page bytes .answer ≡ Answer.Refused why → turnOf page bytes .page ≡ page
+  unfolding turnOf
+  refused-turn why = go (readOf bytes)
+    where
+      go : (r : Reading) → onReading page r .answer ≡ Answer.Refused why → onReading page r .page ≡ page
+      go (Reading.Request q) e = refused-keeps-all page q why e
+      go (Reading.Refused other) e = refl
+
+  -- a sound page stays sound
+  pub turn-keeps : T (soundOf page) → T (soundOf (turnOf page bytes .page))
+  unfolding turnOf
+  turn-keeps sound = go (readOf bytes)
+    where
+      go : (r : Reading) → T (soundOf (onReading page r .page))
+      go (Reading.Request q) = step-keeps page q sound
+      go (Reading.Refused why) = sound
+
 -- ---- the requests
-length-cut : (w n : ℕ) (l : List ℕ) → length (cut w n l) ≡ n
-length-cut w zero l = refl
-length-cut w (suc n) l = ap suc (length-cut w n (drop w l))
-
-cut-at : (w n k : ℕ) (l : List ℕ) → k < n → getD (cut w n l) k [] ≡ take w (drop (w * k) l)
-cut-at w zero k l h = absurd (omega arith)
-cut-at w (suc n) zero l h = rw mul-zero
-cut-at w (suc n) (suc k) l h =
-    let e : w * suc k ≡ w + w * k = simp mul-suc (omega arith) in
-    cut-at w n k (drop w l) (omega arith) ∙ rw (drop-drop, e)
-
 pub length-requests : (l : List ℕ) → length (requestsOf l) ≡ length l / lineSize
 length-requests l = length-cut lineSize (length l / lineSize) l
 
@@ -50,6 +61,11 @@ pub page-append : (page : Page) (before after : List (List ℕ))
     → pageAfter page (before ++ after) ≡ pageAfter (pageAfter page before) after
 page-append page [] after = refl
 page-append page (q ∷ before) after = page-append (turnOf page q .page) before after
+
+-- a sound page stays sound
+pub run-keeps : (page : Page) (qs : List (List ℕ)) → T (soundOf page) → T (soundOf (pageAfter page qs))
+run-keeps page [] sound = sound
+run-keeps page (q ∷ qs) sound = run-keeps (turnOf page q .page) qs (turn-keeps page q sound)
 
 -- the last request leaves the page
 pub page-last : (page : Page) (before : List (List ℕ)) (q : List ℕ)

@@ -134,7 +134,7 @@ module _ (kept out : List ℕ) (total : ℕ) where
       let a = input-runs e in
       let h = requests-fit (freshPage 0) kept (length out) (verdict-accepted (freshPage 0) kept out a) in
       let l = length-answers (freshPage 0) kept out in
-      record { fits = omega arith; long = l; past = past-lines (freshPage 0) kept out a }
+      record { fits = omega arith; long = l; past = past-lines (freshPage 0) kept out }
   within (Verdict.Failed why) e = refusal-within why out (leb lineSize (length out)) refl
 
   pub reply-within : Within (replyLength kept total out) (replyBytes kept total out) out

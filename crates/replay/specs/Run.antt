@@ -1,10 +1,11 @@
 -- A run: each request is answered from the page that those before it left, and each has its line of the answers. A run that
 -- is refused as a whole touches neither the page nor the answer buffer.
-use Prim.Native.Nat.{ℕ, zero, suc, _*_, _/_, _%_}
+use Prim.Native.Nat.{ℕ, _*_, _/_, _%_}
 use mathlib.Core.Bool.{Bool}
 use mathlib.Core.List.{List, [], _∷_, _++_}
 use lib.Dec.{eqb, leb}
 use lib.ListN.{length, take, drop}
+use Rattle.laws.specs.Lists.{cut}
 use Rattle.kinds.specs.Limits.{lineSize, mostRequests}
 use Rattle.page_record.specs.declared.Page.{Page}
 use Rattle.soundness.specs.Soundness.{soundOf}
@@ -13,15 +14,11 @@ use Rattle.requests.specs.Premises.{verdict}
 use Rattle.lock.specs.declared.Outcome.{Outcome}
 use Rattle.lock.specs.Step.{refusedBy}
 use Rattle.wire.specs.Answers.{lineOf}
+use Rattle.wire.specs.Buffers.{leaves}
 use Rattle.replay.specs.Turns.{turnOf}
 
 -- ---- the requests
--- n pieces of w bytes each
-abbrev pub cut : ℕ → ℕ → List ℕ → List (List ℕ)
-cut w zero l = []
-cut w (suc n) l = take w l ∷ cut w n (drop w l)
-
--- the requests, sixteen bytes each
+-- sixteen bytes each
 abbrev pub requestsOf : List ℕ → List (List ℕ)
 requestsOf l = cut lineSize (length l / lineSize) l
 
@@ -55,9 +52,6 @@ wholePremises sound bytes space =
     ∷ (Refusal.NoRoom, leb (lineSize * (bytes / lineSize)) space)
     ∷ []
 
-abbrev pub runPremises : Page → List ℕ → List ℕ → List (Refusal × Bool)
-runPremises page requests answers = wholePremises (soundOf page) (length requests) (length answers)
-
 unfoldable pub runVerdict : Page → ℕ → ℕ → Verdict
 runVerdict page bytes space = verdict (wholePremises (soundOf page) bytes space)
 
@@ -72,8 +66,7 @@ ranOf page requests answers = ends page requests (runVerdict page (length reques
 
 -- the lines, as many bytes as the requests have, and what stood past them; a refusal leaves the buffer
 abbrev pub fills : Page → List ℕ → List ℕ → Verdict → List ℕ
-fills page requests answers Verdict.Passed = linesOf page (requestsOf requests) ++ drop (length requests) answers
-fills page requests answers (Verdict.Failed why) = answers
+fills page requests answers v = leaves (length requests) v (linesOf page (requestsOf requests)) answers
 
 unfoldable pub answersOf : Page → List ℕ → List ℕ → List ℕ
 answersOf page requests answers = fills page requests answers (runVerdict page (length requests) (length answers))

@@ -47,7 +47,3 @@ formed q e =
     clean-below : (takes : Bool) → T (leb (q .clean) (cond takes 1 0)) → q .clean ≤ 1
     clean-below true t = leb→le (q .clean) 1 t
     clean-below false t = omega (arith, leb→le (q .clean) 0 t)
-
--- its bucket alone, for the crates above
-pub judged-bucket : (q : Request) → judged q ≡ Verdict.Passed → q .bucket .0 < buckets
-judged-bucket q e = formed q e .bucket

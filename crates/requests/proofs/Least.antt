@@ -3,15 +3,14 @@
 -- Which fields a step takes is compared for every step number at once, by computation. Assumes nothing.
 use Prim.Native.Nat.{ℕ, zero, suc, _<_}
 use mathlib.Core.Path.{_≡_, refl, sym, _∙_}
-use mathlib.Core.Bool.{Bool, true, false, not, cond, _&&_, _||_, Bool·not-not}
+use mathlib.Core.Bool.{Bool, true, false, not, cond, _||_, Bool·not-not}
 use native.Mathlib.Omega.{arith}
 use borrow.Author.Tests.{le-leb, ne-eqb, not-false}
 use lib.Dec.{eqb, ltb, leb}
 use Rattle.laws.specs.Tables.{firstApplying}
-use Rattle.laws.proofs.Tests.{is-true}
+use Rattle.laws.proofs.Tests.{is-true, not-both, not-either}
 use Rattle.laws.proofs.Orders.{leb-ltb, leb-zero}
 use Rattle.laws.proofs.Pick.{agree-below}
-use Rattle.kinds.specs.Limits.{buckets}
 use Rattle.requests.specs.declared.Request.{Request}
 use Rattle.requests.specs.Answers.{verdictNumber}
 use Rattle.requests.specs.Requests.{lastStep, pastLast, isStep, takesBucket, takesValue, fieldsFit, bucketFits}
@@ -30,33 +29,9 @@ pub step-known : (q : Request) → isStep (q .step) ≡ not (applies2 q)
 step-known q = known (q .step)
 
 -- ---- 3 and 4
--- tests by parts, and each part denied
-either : (x y : Bool) → (x || y) ≡ not (not x && not y)
-either true y = refl
-either false true = refl
-either false false = refl
-
-unless : (x y : Bool) → (not x || y) ≡ not (x && not y)
-unless true y = sym (Bool·not-not y)
-unless false y = refl
-
-three : (x y z : Bool) → (not x && not y && not z) ≡ not (x || y || z)
-three true y z = refl
-three false true z = refl
-three false false true = refl
-three false false false = refl
-
 clean-fits : (c : ℕ) (taken : Bool) → leb c (cond taken 1 0) ≡ not (cond taken (ltb 1 c) (not (eqb c 0)))
 clean-fits c true = leb-ltb c 1
 clean-fits c false = leb-zero c ∙ sym (Bool·not-not (eqb c 0))
-
--- 3, for any fields that are taken
-fields : (b c v : ℕ) (tb tc tv : Bool)
-    → ((tb || eqb b 0) && leb c (cond tc 1 0) && (tv || eqb v 0))
-    ≡ not ((not tb && not (eqb b 0)) || cond tc (ltb 1 c) (not (eqb c 0)) || (not tv && not (eqb v 0)))
-fields b c v tb tc tv =
-    rw (either tb (eqb b 0), clean-fits c tc, either tv (eqb v 0))
-    (three (not tb && not (eqb b 0)) (cond tc (ltb 1 c) (not (eqb c 0))) (not tv && not (eqb v 0)))
 
 module _ (q : Request) (below : q .step < pastLast) where
   same-bucket : takesBucket (q .step) ≡ bucketTaken (q .step)
@@ -67,11 +42,10 @@ module _ (q : Request) (below : q .step < pastLast) where
 
   pub fields-fit : fieldsFit q ≡ not (applies3 q)
   fields-fit =
-      rw (same-bucket, same-value)
-      (fields (q .bucket .0) (q .clean) (q .value) (bucketTaken (q .step)) (cleanTaken (q .step)) (valueTaken (q .step)))
+      rw (same-bucket, same-value, clean-fits (q .clean) (cleanTaken (q .step))) (simp (not-both, not-either, Bool·not-not))
 
   pub bucket-fits : bucketFits q ≡ not (applies4 q)
-  bucket-fits = rw same-bucket (unless (bucketTaken (q .step)) (ltb (q .bucket .0) buckets))
+  bucket-fits = rw same-bucket (simp (not-both, Bool·not-not))
 
 -- ---- the three together
 pub judged-number : (q : Request) → verdictNumber (judged q) ≡ firstApplying (applyingFields q)

@@ -24,7 +24,7 @@ pub struct Request {
     pub value: u64,
 }
 
-// Why something is refused: the numbers 1 to 17 of RULES 4.1, in their order. 12 to 14 are of bytes and runs, 15 and 16 of an image.
+// Why something is refused: the numbers 1 to 17 of RULES 4.1, in their order. 12 to 14 are of bytes, runs and pieces, 15 and 16 of an image.
 pub enum Refusal {
     Unsound,
     UnknownStep,

@@ -8,7 +8,7 @@ use lib.ListN.{length}
 use Rattle.laws.specs.Lists.{every}
 use Rattle.kinds.specs.declared.{Count.Count, Flag.Flag, Storage.Storage, Phase.Phase, Reader.Reader, ExcState.ExcState}
 use Rattle.kinds.specs.declared.{LoadingState.LoadingState, WritebackState.WritebackState}
-use Rattle.kinds.specs.Limits.{buckets, capacity, ceiling, Limits, today}
+use Rattle.kinds.specs.Limits.{buckets, capacity, Limits, today}
 use Rattle.kinds.specs.Flags.{isUnmapped}
 use Rattle.readers.specs.declared.Readers.{Readers}
 use Rattle.readers.specs.Listed.{live, blankPast}
@@ -106,13 +106,10 @@ sharedStateValid h r =
 abbrev pub sharedStorageInvariant : Head → List Reader → Bool
 sharedStorageInvariant h readers = every (sharedStateValid h) readers
 
--- ---- rule 8: the limits, which only the counts and the list's length meet
+-- ---- rule 8: the limits. `Limits` is asked for by the counts and the list's length alone
 -- each count at most the highest
 abbrev pub countsUnder : ℕ → List Count → Bool
 countsUnder highest cs = every (λ (c : Count). leb (c .0) highest) cs
-
-abbrev pub countsWithin : List Count → Bool
-countsWithin cs = countsUnder ceiling cs
 
 -- every holder's bucket 0 to 3, visited at most 4
 abbrev pub holdersWithin : ExcState → LoadingState → Bool

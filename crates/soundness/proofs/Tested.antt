@@ -1,7 +1,7 @@
 -- The test `soundOf` and the named facts `Sound` say the same: `facts` from the test, `tested` back, and `tested-parts` for a
 -- head and a list. Rule 8's holder buckets, visited number and readers' buckets follow from rules 2, 4 and 7, so the facts
 -- do not list them. Assumes nothing.
-use Prim.Native.Nat.{ℕ, zero, suc, _-_, _≤_, _<_}
+use Prim.Native.Nat.{ℕ, suc, _-_, _≤_, _<_}
 use mathlib.Core.Path.{_≡_, sym, subst}
 use mathlib.Core.Bool.{Bool, true}
 use mathlib.Core.List.{List, [], _∷_}
@@ -11,7 +11,8 @@ use lib.Dec.{T, eqb, leb, ltb, eqb→eq, leb→le, le→leb, lt→ltb}
 use lib.ListN.{length, getD}
 use Rattle.laws.specs.Lists.{every}
 use Rattle.laws.proofs.Tests.{is-true, both, halves, and-iff}
-use Rattle.laws.proofs.Lists.{every-mono, every-at, every-default}
+use Rattle.laws.proofs.Lists.{every-mono, every-default}
+use Rattle.laws.proofs.Pick.{pick}
 use Rattle.kinds.specs.declared.{Count.Count, Reader.Reader}
 use Rattle.kinds.specs.Limits.{buckets, capacity, ceiling}
 use Rattle.readers.specs.declared.Readers.{Readers}
@@ -20,7 +21,7 @@ use Rattle.readers.proofs.Bridge.{live-listed, length-listed, blank-listed, len
 use Rattle.page_record.specs.declared.{Head.Head, Page.Page}
 use Rattle.page_record.specs.Pages.{headOf, pageOf, numberAt}
 use Rattle.page_record.specs.References.{countAllRefs}
-use Rattle.rules.specs.Rules.{everyBucket, refCountInvariant, sharedStateValid, countsWithin, limitsKept}
+use Rattle.rules.specs.Rules.{everyBucket, refCountInvariant, sharedStateValid, countsUnder, limitsKept}
 use Rattle.soundness.specs.Soundness.{rules, soundOf}
 use Rattle.soundness.proofs.Facts.{Sound, SoundPage}
 use Rattle.soundness.proofs.Shapes.{rules-of}
@@ -32,11 +33,7 @@ eq→eqb m n e = is-true (eq-eqb m n e)
 
 -- ---- every bucket, and every count
 at-bucket : (f : ℕ → Bool) → T (every f everyBucket) → (b : ℕ) → b < buckets → T (f b)
-at-bucket f t zero k = every-at f everyBucket 0 0 t k
-at-bucket f t (suc zero) k = every-at f everyBucket 1 0 t k
-at-bucket f t (suc (suc zero)) k = every-at f everyBucket 2 0 t k
-at-bucket f t (suc (suc (suc zero))) k = every-at f everyBucket 3 0 t k
-at-bucket f t (suc (suc (suc (suc b)))) k = absurd (omega arith)
+at-bucket f t = pick buckets (λ b. T (f b)) (simp and-iff at t)
 
 every-bucket : (f : ℕ → Bool) → ((b : ℕ) → b < buckets → T (f b)) → T (every f everyBucket)
 every-bucket f k = simp and-iff (k 0 (omega arith), (k 1 (omega arith), (k 2 (omega arith), (k 3 (omega arith), tt))))
@@ -44,12 +41,12 @@ every-bucket f k = simp and-iff (k 0 (omega arith), (k 1 (omega arith), (k 2 (om
 abbrev isFew : Count → Bool
 isFew c = leb (c .0) ceiling
 
-few-of : (cs : List Count) → T (countsWithin cs) → (b : ℕ) → numberAt cs b ≤ ceiling
+few-of : (cs : List Count) → T (countsUnder ceiling cs) → (b : ℕ) → numberAt cs b ≤ ceiling
 few-of cs t b = leb→le (numberAt cs b) ceiling (every-default isFew cs b (record { 0 = 0 }) t tt)
 
-of-few : (cs : List Count) → ((b : ℕ) → numberAt cs b ≤ ceiling) → T (countsWithin cs)
+of-few : (cs : List Count) → ((b : ℕ) → numberAt cs b ≤ ceiling) → T (countsUnder ceiling cs)
 of-few [] few = tt
-of-few (c ∷ cs) few = both (isFew c) (countsWithin cs) (le→leb (c .0) ceiling (few 0)) (of-few cs (λ b. few (suc b)))
+of-few (c ∷ cs) few = both (isFew c) (countsUnder ceiling cs) (le→leb (c .0) ceiling (few 0)) (of-few cs (λ b. few (suc b)))
 
 -- ---- from the test to the facts
 pub facts : (p : Page) → T (soundOf p) → SoundPage p

@@ -1,37 +1,29 @@
 -- Laws of numbers as bytes, in this order: bytes, how large their number is, one turn of the loop that writes them, and that
 -- reading and writing a number undo each other. Assumes nothing.
 use Prim.Native.Nat.{ℕ, zero, suc, _+_, _*_, _/_, _%_, _^_, _-_, _<_, _≤_}
-use mathlib.Core.Path.{_≡_, refl, sym}
+use mathlib.Core.Path.{_≡_, refl}
 use mathlib.Core.Bool.{true}
 use mathlib.Core.List.{List, [], _∷_, _++_}
 use native.Mathlib.Omega.{arith}
-use native.Mathlib.Numerals.{add-one}
 use native.Mathlib.Nat.{pow-succ'}
-use borrow.Author.Tests.{eqb-true}
-use lib.Dec.{eqb}
+use lib.Dec.{eqb, eqb→eq}
 use lib.ListN.{length, take, drop, set, replicate}
-use lib.Seq.{getD-drop, take-suc-set, append-snoc}
-use Rattle.laws.proofs.Tests.{parts-true}
+use lib.Seq.{getD-drop}
+use Rattle.laws.proofs.Tests.{is-true}
+use Rattle.laws.proofs.Lists.{every-only, each-take}
+use Rattle.laws.proofs.Turns.{store-next}
 use Rattle.wire.specs.Bytes.{Bytes, number, lowBytes, blank}
 
 -- ---- bytes
 pub bytes-take : (n : ℕ) (l : List ℕ) → Bytes l → Bytes (take n l)
-bytes-take zero l b i = omega arith
-bytes-take (suc n) [] b i = omega arith
-bytes-take (suc n) (x ∷ l) b zero = b 0
-bytes-take (suc n) (x ∷ l) b (suc i) = bytes-take n l (λ j. b (suc j)) i
+bytes-take n l b = each-take (λ b. b < 256) 0 (omega arith) n l b
 
 pub bytes-drop : (n : ℕ) (l : List ℕ) → Bytes l → Bytes (drop n l)
 bytes-drop n l b i = rw getD-drop (b (n + i))
 
 -- bytes that are all zero are so many zeros
 pub zeros-are : (l : List ℕ) → blank l ≡ true → l ≡ replicate (length l) 0
-zeros-are [] e = refl
-zeros-are (b ∷ bs) e =
-    let t = parts-true (eqb b 0) (blank bs) e in
-    let z = eqb-true b 0 (t .0) in
-    let r = zeros-are bs (t .1) in
-    cc
+zeros-are l e = every-only (λ b. eqb b 0) 0 (λ b. eqb→eq b 0) l (is-true e)
 
 -- ---- the size of a number
 above : (n : ℕ) → 0 < 256 ^ n
@@ -51,7 +43,7 @@ pub stored : (l : List ℕ) (k : ℕ) → k < length l → (n x : ℕ) → k < n
     → take k l ++ lowBytes (n - k) x ≡ take (k + 1) (set l k (x % 256)) ++ lowBytes (n - (k + 1)) (x / 256)
 stored l k more n x h =
     let e : n - k ≡ suc (n - (k + 1)) = omega arith in
-    rw (e, add-one k, take-suc-set l k (x % 256)) (sym (append-snoc (take k l) (x % 256) (lowBytes (n - suc k) (x / 256))))
+    rw e (store-next l k (x % 256) (lowBytes (n - (k + 1)) (x / 256)) more)
 
 -- ---- there and back
 pub number-lowBytes : (n v : ℕ) → v < 256 ^ n → number (lowBytes n v) ≡ v

@@ -4,13 +4,13 @@
 use Prim.Native.Nat.{ℕ, _≤_}
 use mathlib.Core.Path.{_≡_, refl, sym, ap, _∙_}
 use mathlib.Core.Logic.{_↔_}
-use mathlib.Core.Bool.{Bool, true, false, not, cond, _&&_, _||_, Bool·not-not}
+use mathlib.Core.Bool.{Bool, true, false, not, cond, Bool·not-not}
 use mathlib.Core.List.{List, [], _∷_}
 use native.Mathlib.Omega.{arith}
 use borrow.Author.Tests.{not-false, eq-eqb, ne-eqb}
 use lib.ListN.{length}
 use Rattle.laws.specs.Tables.{firstApplying}
-use Rattle.laws.proofs.Tests.{is-true}
+use Rattle.laws.proofs.Tests.{is-true, not-both}
 use Rattle.laws.proofs.Orders.{leb-ltb}
 use Rattle.laws.proofs.Tables.{first-before, first-after}
 use Rattle.kinds.specs.Limits.{lineSize}
@@ -33,11 +33,6 @@ reading-number : (q : Request) (v : Verdict) → readingNumber (readingOf q v) �
 reading-number q Verdict.Passed = refl
 reading-number q (Verdict.Failed why) = refl
 
--- two parts, of which one is denied
-denied : (a z : Bool) → not (not a && z) ≡ (a || not z)
-denied true z = refl
-denied false z = refl
-
 few : (a b c : Bool) → firstApplying ((2, a) ∷ (3, b) ∷ (4, c) ∷ []) ≤ 4
 few true b c = omega arith
 few false true c = omega arith
@@ -56,8 +51,8 @@ module _ (l : List ℕ) where
           → firstApplying (failing (readable l)) ≡ firstApplying ((12, applies12 l) ∷ applyingBytes l)
       go true e =
           let below = step-below (q .step) (is-true e) in
-          rw (step-known q, fields-fit q below, bucket-fits q below, denied (applies3 q) (blank (part zerosAt valueAt l)))
-          (simp Bool·not-not)
+          let zeros = not-both (not (applies3 q)) (blank (part zerosAt valueAt l)) in
+          rw (step-known q, fields-fit q below, bucket-fits q below, zeros) (simp Bool·not-not)
       go false e = rw (e, not-false (applies2 q) (sym (step-known q) ∙ e))
 
   -- of sixteen bytes, the lowest of 2, 3 and 4

@@ -3,10 +3,12 @@
 -- for what is accepted, since its number is above 0. Assumes nothing.
 use Prim.Native.Nat.{ℕ, _<_}
 use mathlib.Core.Path.{_≡_, refl, ap, _∙_, sym}
-use mathlib.Core.Bool.{Bool, true, false, cond, true≢false}
+use mathlib.Core.Bool.{Bool, cond, true≢false}
 use mathlib.Core.List.{List}
 use native.Mathlib.Omega.{arith}
+use lib.Dec.{eqb}
 use lib.ListN.{length, getD}
+use Rattle.laws.proofs.Tests.{byte-back}
 use Rattle.kinds.specs.Limits.{lineSize}
 use Rattle.requests.specs.declared.Answer.{Answer}
 use Rattle.requests.specs.Answers.{answerNumber, withdraws, answerValue}
@@ -22,10 +24,7 @@ length-line a = length-line-with (answerNumber a) (cond (withdraws a) 1 0) 0 (an
 
 -- ---- the bytes tell the answer
 marks : (s t : Bool) → _≡_ {A = ℕ} (cond s 1 0) (cond t 1 0) → s ≡ t
-marks true true e = refl
-marks true false e = absurd (omega arith)
-marks false true e = absurd (omega arith)
-marks false false e = refl
+marks s t e = sym (byte-back s) ∙ ap (λ (n : ℕ). eqb n 1) e ∙ byte-back t
 
 value-line : (a : Answer) → answerValue a < valueLimit → number (part valueAt lineSize (lineOf a)) ≡ answerValue a
 unfolding lineOf lineWith

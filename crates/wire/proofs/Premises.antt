@@ -107,7 +107,7 @@ module _ (q : Request) (l : List ℕ) where
   unfolding judged wroteAnswer wroteTo
   write-refused why e =
       let v = stops-first (formal q) (room l ∷ []) why e in
-      (ap answerFor (sym v), ap (λ (w : Verdict). leaves w (bytesOf q) l) (sym v))
+      (ap answerFor (sym v), ap (λ (w : Verdict). leaves lineSize w (bytesOf q) l) (sym v))
 
   -- where the fields fit, the room decides
   pub write-granted : (r : Answer) (ys : List ℕ) → judged q ≡ Verdict.Passed
@@ -116,7 +116,7 @@ module _ (q : Request) (l : List ℕ) where
   unfolding judged wroteAnswer wroteTo bytesOf putAnswer putTo
   write-granted r ys e f g =
       let v = then-next (formal q) (room l ∷ []) e in
-      (f ∙ ap answerFor (sym v), g ∙ ap (λ (w : Verdict). leaves w (bytesOf q) l) (sym v))
+      (f ∙ ap answerFor (sym v), g ∙ ap (λ (w : Verdict). leaves lineSize w (bytesOf q) l) (sym v))
 
 -- ---- writing an answer
 -- the sixteen bytes of an answer's number, mark and value are its line

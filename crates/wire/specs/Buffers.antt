@@ -17,14 +17,14 @@ abbrev pub answerFor : Verdict → Answer
 answerFor Verdict.Passed = Answer.Accepted
 answerFor (Verdict.Failed why) = Answer.Refused why
 
--- the line over the first sixteen bytes; a refusal leaves the buffer untouched
-abbrev pub leaves : Verdict → List ℕ → List ℕ → List ℕ
-leaves Verdict.Passed bytes l = bytes ++ drop lineSize l
-leaves (Verdict.Failed why) bytes l = l
+-- these bytes over the first so many of a buffer, and what stood past them; a refusal leaves the buffer untouched
+abbrev pub leaves : ℕ → Verdict → List ℕ → List ℕ → List ℕ
+leaves many Verdict.Passed bytes l = bytes ++ drop many l
+leaves many (Verdict.Failed why) bytes l = l
 
 -- a line that is right in itself: what is answered, and what the buffer holds then
 unfoldable pub putAnswer : List ℕ → Answer
 putAnswer l = answerFor (verdict (room l ∷ []))
 
 unfoldable pub putTo : List ℕ → List ℕ → List ℕ
-putTo bytes l = leaves (verdict (room l ∷ [])) bytes l
+putTo bytes l = leaves lineSize (verdict (room l ∷ [])) bytes l

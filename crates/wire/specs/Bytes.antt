@@ -1,10 +1,11 @@
 -- Numbers as bytes, low byte first, and the one form that a request and an answer share: sixteen bytes, of which the first
 -- three are small numbers, five are zero, and eight are a value.
 use Prim.Native.Nat.{ℕ, zero, suc, _+_, _-_, _*_, _/_, _%_, _^_, _<_}
-use mathlib.Core.Bool.{Bool, true, _&&_}
+use mathlib.Core.Bool.{Bool}
 use mathlib.Core.List.{List, [], _∷_, _++_}
 use lib.Dec.{eqb}
 use lib.ListN.{take, drop, getD}
+use Rattle.laws.specs.Lists.{every}
 
 -- ---- the places of a line
 -- where its five zeros begin
@@ -36,8 +37,7 @@ lowBytes (suc n) v = v % 256 ∷ lowBytes n (v / 256)
 
 -- the bytes are all zero
 abbrev pub blank : List ℕ → Bool
-blank [] = true
-blank (b ∷ bs) = eqb b 0 && blank bs
+blank l = every (λ b. eqb b 0) l
 
 -- the bytes from a place up to another
 abbrev pub part : ℕ → ℕ → List ℕ → List ℕ

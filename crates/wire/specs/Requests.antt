@@ -72,4 +72,4 @@ unfoldable pub wroteAnswer : Request → List ℕ → Answer
 wroteAnswer q l = answerFor (verdict (writable q l))
 
 unfoldable pub wroteTo : Request → List ℕ → List ℕ
-wroteTo q l = leaves (verdict (writable q l)) (bytesOf q) l
+wroteTo q l = leaves lineSize (verdict (writable q l)) (bytesOf q) l

@@ -22,7 +22,7 @@ use requests::Verdict;
 const ZEROS: usize = 3;
 
 // Where the value of a line begins.
-const VALUE: usize = 8;
+pub const VALUE: usize = 8;
 
 // What sixteen bytes say. A refusal gives no request.
 pub enum Reading {

@@ -7,9 +7,9 @@ use borrow.Author.Needs.{needs}
 use lib.ListN.{length, take}
 use lib.Seq.{length-take-le}
 use Rattle.kinds.specs.Limits.{capacity}
-use Rattle.image.specs.Images.{wholeSize, shortSize}
+use Rattle.encoding.specs.Images.{wholeSize, shortSize}
 use Rattle.image.specs.Keeping.{sameBytes}
-use Rattle.image.proofs.Rooms.{length-image}
+use Rattle.encoding.proofs.Rooms.{length-image, imaged-all}
 use Rattle.image.proofs.Lengths.{image-other, image-short}
 use Rattle.image.proofs.is_image.Statement.{statement}
 use Rattle.image.proofs.is_image.Tie as tie
@@ -19,11 +19,11 @@ is-image-spec =
     tie.close
     (tie.spec
     (λ c. search needs)
-    (λ c κs. refl)
+    (λ c κs. tt)
     (λ c. search needs)
     (λ c.
-    let p = c .before .before .before .put-image in
-    let long : length (p .last .1 .0) ≡ wholeSize = ap length (p .ensures) ∙ length-image capacity _ in
+    let p = c .before .before .before .encode in
+    let long : length (p .last .1 .0) ≡ wholeSize = ap length (p .ensures ∙ imaged-all _ _ refl) ∙ length-image capacity _ in
     sym (length-take-le shortSize (p .last .1 .0) (omega arith)))
     (λ c κs. tt)
     (λ c.
@@ -31,7 +31,7 @@ is-image-spec =
     let again = t .before .before in
     let a = again .before .before .before .args in
     c .same .ensures
-    ∙ ap (λ (z : List ℕ). sameBytes (a .image .now) (take shortSize z)) (again .put-image .ensures)
+    ∙ ap (λ (z : List ℕ). sameBytes (a .image .now) (take shortSize z)) (again .encode .ensures ∙ imaged-all (a .page) _ refl)
     ∙ sym (image-short (a .image .now) (a .page) (t .if1 .taken)))
     (λ c. search needs)
     (λ c κs. tt)
@@ -40,5 +40,5 @@ is-image-spec =
     let again = t .before .before in
     let a = again .before .before .before .args in
     c .same2 .ensures
-    ∙ ap (sameBytes (a .image .now)) (again .put-image .ensures)
+    ∙ ap (sameBytes (a .image .now)) (again .encode .ensures ∙ imaged-all (a .page) _ refl)
     ∙ sym (image-other (a .image .now) (a .page) (t .if1 .left))))

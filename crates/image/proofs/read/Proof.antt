@@ -5,7 +5,7 @@ use mathlib.Core.Path.{_≡_, sym, ap, _∙_}
 use borrow.Author.Needs.{needs}
 use Rattle.page_record.specs.declared.Page.{Page}
 use Rattle.requests.specs.declared.{Answer.Answer, Verdict.Verdict}
-use Rattle.image.specs.Decoding.{pageFrom}
+use Rattle.decoding.specs.Decoding.{pageFrom}
 use Rattle.image.specs.Keeping.{readVerdict, restoredAs, restoredFrom}
 use Rattle.image.proofs.read.Statement.{statement}
 use Rattle.image.proofs.read.Tie as tie

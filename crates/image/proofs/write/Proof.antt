@@ -1,10 +1,9 @@
 -- `image::write` meets its contract: each return, by the law of what its tests showed. Assumes nothing.
-use mathlib.Core.Path.{_∙_}
+use mathlib.Core.Path.{_∙_, sym}
 use borrow.Author.Needs.{needs}
-use borrow.Rule.Slice.PartMut.{mid-len}
 use Rattle.laws.proofs.Tests.{fails-by, holds-by}
-use Rattle.image.specs.Images.{wholeSize}
-use Rattle.image.proofs.Written.{first-part, write-unsound, write-short, write-whole}
+use Rattle.encoding.proofs.Rooms.{imaged-whole}
+use Rattle.image.proofs.Written.{write-unsound, write-short, write-whole}
 use Rattle.image.proofs.write.Statement.{statement}
 use Rattle.image.proofs.write.Tie as tie
 
@@ -20,10 +19,7 @@ write-spec =
     let s = c .before in
     let a = s .before .before .before .args in
     write-short (a .page) (a .buffer .now) (holds-by (s .before .is-sound .ensures) (s .if1 .left)) (c .if2 .taken))
-    (λ c. search needs)
-    (λ c. search needs)
-    (λ c. search needs)
-    (λ c κs. mid-len 0 wholeSize (c .before .before .before .before .before .args .buffer .now) (c .before .if2 .left))
+    (λ c κs. tt)
     (λ c. search needs)
     (λ c.
     let d = c .before .before in
@@ -31,4 +27,4 @@ write-spec =
     let s = t .before in
     let a = s .before .before .before .args in
     let w = write-whole (a .page) (a .buffer .now) (holds-by (s .before .is-sound .ensures) (s .if1 .left)) (t .if2 .left) in
-    (w .0, first-part wholeSize (a .buffer .now) (d .put-image .last .1 .0) _ (d .put-image .ensures) ∙ w .1)))
+    (w .0, d .encode .ensures ∙ sym (imaged-whole (a .page) (a .buffer .now) (t .if2 .left)) ∙ w .1)))

@@ -3,14 +3,15 @@
 -- there are four counts, and that a holder's bucket is one of them. Assumes nothing.
 use Prim.Native.Nat.{ℕ, _+_, _-_, _<_}
 use mathlib.Core.Path.{_≡_, refl, sym, ap, _∙_}
-use mathlib.Core.Bool.{Bool, true, false, cond}
+use mathlib.Core.Bool.{Bool, true, false}
 use mathlib.Core.List.{List, [], _∷_, _++_}
 use native.Mathlib.Omega.{arith}
 use borrow.Author.Tests.{lt-ltb, lt-leb, eq-eqb}
-use lib.Dec.{T, eqb, ltb→lt}
+use lib.Dec.{T, ltb→lt}
 use lib.ListN.{length}
 use lib.Seq.{set-append-seam}
 use Rattle.laws.specs.Lists.{lastFirst}
+use Rattle.laws.proofs.Tests.{byte-back}
 use Rattle.laws.proofs.Lists.{without-split}
 use Rattle.kinds.specs.declared.{Bucket.Bucket, MaybeBucket.MaybeBucket, Storage.Storage, Reader.Reader}
 use Rattle.kinds.specs.declared.{ExcState.ExcState, LoadingState.LoadingState}
@@ -51,11 +52,6 @@ took p = record {
   head = λ i. headWith (p .storage i) (p .flag i) (p .counts i) (p .exc i) (p .loading i) (p .writeback i);
   list = p .list;
 }
-
--- step 6's clean, read back from its number
-is-clean : (clean : Bool) → eqb (cond clean 1 0) 1 ≡ clean
-is-clean true = refl
-is-clean false = refl
 
 -- what a clean holder puts in is what it took
 may-put : (clean : Bool) (taken value : ℕ) → Unchanged clean taken value → mayPutIn clean taken value ≡ true
@@ -134,7 +130,7 @@ module _ (h : Head) (l : List Reader) (q : Request) (h′ : Head) (l′ : List R
       step-is 5 step (rw remove (took (search)))
   takes (Moves.take-exc-lock-finish-writeback clean bucket value step named require remove add update only) room =
       let flag = lock-flag clean ∙ sym update in
-      step-is 6 step (rw (done (h .flag) (require .0) (require .1), remove, named, is-clean clean) (took (search)))
+      step-is 6 step (rw (done (h .flag) (require .0) (require .1), remove, named, byte-back clean) (took (search)))
   takes (Moves.take-exc-lock-check-ref-count bucket visited clean value rc step remove require add expect have only) room =
       let found = have ∙ sym (is-expected bucket (visited .0) rc expect) in
       step-is 7 step (rw (remove, lt-ltb (visited .0) buckets require, eq-eqb _ _ found) (took (search)))

@@ -4,13 +4,13 @@
 -- their limits (`bounds`). Assumes nothing.
 use Prim.Native.Nat.{ℕ, _≤_}
 use mathlib.Core.Path.{_≡_, refl, sym, ap, _∙_}
-use mathlib.Core.Bool.{Bool, true, false, not, _&&_, _||_, Bool·not-not}
+use mathlib.Core.Bool.{Bool, true, false, not, _&&_, Bool·not-not}
 use mathlib.Core.List.{List}
 use native.Mathlib.Omega.{arith}
 use lib.Dec.{T, eqb, ltb, leb}
 use Rattle.laws.specs.Tables.{firstApplying}
 use Rattle.laws.specs.Lists.{among}
-use Rattle.laws.proofs.Tests.{is-true}
+use Rattle.laws.proofs.Tests.{is-true, not-either}
 use Rattle.laws.proofs.Pick.{Below, _&_, pick}
 use Rattle.laws.proofs.Orders.{limit-not-below, limit-reached}
 use Rattle.kinds.specs.declared.{Bucket.Bucket, Flag.Flag, Phase.Phase, Reader.Reader}
@@ -99,11 +99,6 @@ open-lets = by-flag (λ f. openToReaders f ≡ flagLets 23 f) refl refl refl ref
 loading-lets : (f : Flag) → notLoading f ≡ flagLets 24 f
 loading-lets = by-flag (λ f. notLoading f ≡ flagLets 24 f) refl refl refl refl refl refl refl refl refl refl refl
 
--- ---- a clean holder's value is another just if it may not be put in
-clean-other : (clean same : Bool) → (clean && not same) ≡ not (not clean || same)
-clean-other true same = refl
-clean-other false same = refl
-
 -- ---- each step's premises are the numbers 5 to 11 and 17 of the table
 module _ (p : Page) (within : Bounds p) (b : Bucket) (clean value : ℕ) where
   abbrev ask : ℕ → Request
@@ -155,7 +150,7 @@ module _ (p : Page) (within : Bounds p) (b : Bucket) (clean value : ℕ) where
   is-full = limit-reached (p .readers .len) capacity (within .room)
 
   is-other : (excClean (p .«exc_state») && not (eqb value (excValue (p .«exc_state»)))) ≡ not kept
-  is-other = clean-other (excClean (p .«exc_state»)) (eqb value (excValue (p .«exc_state»)))
+  is-other = simp (not-either, Bool·not-not)
 
   finds : (phase : Phase) → isFound (findIn (live (p .readers)) (reader phase b)) ≡ reads phase
   finds phase = found-listed (live (p .readers)) (reader phase b)

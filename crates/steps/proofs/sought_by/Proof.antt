@@ -4,7 +4,7 @@ use Prim.Native.Nat.{suc}
 use mathlib.Core.List.{[], _∷_}
 use mathlib.Core.Path.{_∙_, sym}
 use lib.ListN.{replicate}
-use Rattle.laws.proofs.Arms.{elsewhere, every-same}
+use Rattle.laws.proofs.Arms.{elsewhere, copies-at}
 use Rattle.kinds.specs.declared.Phase.{Phase}
 use Rattle.requests.specs.Requests.{lastStep}
 use Rattle.heads.specs.Decisions.{reader}
@@ -33,4 +33,4 @@ sought-by-spec =
     let somebody = (24, pending2) ∷ (23, pending) ∷ leaving in
     sym
     (elsewhere (replicate (suc lastStep) Sought.Nobody) somebody (q .step) Sought.Nobody (c .match .rest)
-    ∙ every-same (suc lastStep) (q .step) Sought.Nobody)))
+    ∙ copies-at (suc lastStep) (q .step) Sought.Nobody)))

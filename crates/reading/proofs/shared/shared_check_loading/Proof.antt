@@ -2,7 +2,6 @@
 -- nothing.
 use borrow.Author.Needs.{needs}
 use Rattle.laws.proofs.Tests.{fails-by, holds-by}
-use Rattle.heads.proofs.Tags.{not-loading}
 use Rattle.reading.proofs.shared.shared_check_loading.Statement.{statement}
 use Rattle.reading.proofs.shared.shared_check_loading.Tie as tie
 

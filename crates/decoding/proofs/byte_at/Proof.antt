@@ -1,0 +1,14 @@
+-- `image::decoding::byte_at` meets its contract: a byte past the end is missing. Assumes nothing.
+use mathlib.Core.Path.{sym}
+use borrow.Author.Needs.{needs}
+use lib.ListN.{List·getD-eq-default}
+use Rattle.decoding.proofs.byte_at.Statement.{statement}
+use Rattle.decoding.proofs.byte_at.Tie as tie
+
+pub byte-at-spec : {M : Type 1} → statement M
+byte-at-spec =
+    tie.close
+    (tie.spec
+    (λ c. search needs)
+    (λ c. search needs)
+    (λ c. sym (List·getD-eq-default (c .before .args .bytes .now) 0 (c .if1 .left))))
