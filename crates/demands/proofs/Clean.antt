@@ -1,8 +1,8 @@
 -- Clean means clean, proved of requests (`clean-requests`) and of the lines of runs (`clean-lines`). An accepted request has
 -- passed its step's premises (`ran`). Beside an editor that has the page out, one table over the steps says what each does (`beside`):
 -- 9, 10, 29 and 30 put in what may be put in, and any other leaves the editor there, as clean as it was and with the value that it
--- keeps. Whatever is asked is a request that is stepped, or is refused (`Acted`, Asked.antt), so that the editor keeps on (`keeps-on`) until one of
--- the four puts in what was kept (`gives-kept`). Assumes nothing.
+-- keeps. Whatever is asked is a request that is stepped, or is refused (`Acted`, Asked.antt), so that the editor keeps on (`keeps-on`)
+-- until one of the four puts in what was kept (`gives-kept`). Assumes nothing.
 use Prim.Native.Nat.{ℕ, zero, suc}
 use mathlib.Core.Path.{_≡_, refl, sym, ap, _∙_}
 use mathlib.Core.Logic.{inl, inr}

@@ -1,7 +1,7 @@
 -- The order of the readers is not to be seen: two pages that differ in it alone have one census (`census-same`), run any bytes alike
--- (`run-free`) and take any piece alike (`piece-free`); and after any requests answers, counts and census are those of a list that closes the gap (`unseen`). One request, answered
--- by the lock and on that list (`closes-alike`): by `order-free`, and since both ways take the same entry out (`closed-same`). Assumes
--- nothing.
+-- (`run-free`) and take any piece alike (`piece-free`); and after any requests answers, counts and census are those of a list that closes
+-- the gap (`unseen`). One request, answered by the lock and on that list (`closes-alike`): by `order-free`, and since both ways take the
+-- same entry out (`closed-same`). Assumes nothing.
 use Prim.Native.Nat.{ℕ, _+_}
 use mathlib.Core.Path.{_≡_, refl, sym, ap, _∙_}
 use mathlib.Core.Bool.{Bool, true, false, cond, false≢true}

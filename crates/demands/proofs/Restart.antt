@@ -25,7 +25,7 @@ use Rattle.image.specs.Keeping.{limitsBy, ImageUnder, restored, restoredFrom, k
 use Rattle.image.specs.Applies.{isSoundImage, applyingRead, applyingWrite}
 use Rattle.encoding.proofs.Rooms.{length-image, image-longer}
 use Rattle.image.proofs.Lengths.{by-short, by-other, known-one, sound-today}
-use Rattle.image.proofs.Trips.{in-range, Accepted, accepted, refused-fresh, restored-sound, four-refused, write-read}
+use Rattle.image.proofs.Trips.{in-range, accepted, refused-fresh, restored-sound, four-refused, write-read}
 use Rattle.image.proofs.Trips.{image-iff, accepts-images, image-injective}
 use Rattle.image.proofs.Short.{short-write, short-read}
 use Rattle.image.proofs.Written.{write-whole, write-untouched, write-first, write-past}

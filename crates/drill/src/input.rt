@@ -77,7 +77,7 @@ fn head(left: usize) -> Order
 }
 
 // The next operation, of which the payload stands at the start of what is lent for it.
-pub fn next(left: usize, payload: &mut [u8]) -> Order
+pub(crate) fn next(left: usize, payload: &mut [u8]) -> Order
     ensures { λ r. ⌜ (r .length ≤ length (now (payload .exit))) × (r .left ≤ left - lineSize) ⌝ }
 {
     let mut order = head(left);

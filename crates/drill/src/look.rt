@@ -86,7 +86,7 @@ fn list(readers: Readers) {
 }
 
 // The page, for who looks at it.
-pub fn look(page: Page) {
+pub(crate) fn look(page: Page) {
     judged(
         soundness::sound(page),
         soundness::broken_rule(page),

@@ -38,7 +38,7 @@ const NO_STEP: u8 = 0;
 const FILLING: u8 = 170;
 
 // Fills the buffer of an operation that has one: `a` bytes, or all of the space where `a` is larger. Answers how long it is.
-pub fn fill(kind: u64, a: u64, space: &mut [u8]) -> usize
+pub(crate) fn fill(kind: u64, a: u64, space: &mut [u8]) -> usize
     ensures { λ r. ⌜ r ≤ length (now (space .exit)) ⌝ }
 {
     if (kind != RUN) & (kind != WRITE) & (kind != KEEP) & (kind != TAKE) {
@@ -79,7 +79,7 @@ fn told(out: Outcome) -> Page {
 }
 
 // Operation 2: one step by value.
-pub fn step(page: Page, payload: &[u8]) -> Page {
+pub(crate) fn step(page: Page, payload: &[u8]) -> Page {
     let request = asked(payload);
     if request.step == NO_STEP {
         return page;
@@ -88,7 +88,7 @@ pub fn step(page: Page, payload: &[u8]) -> Page {
 }
 
 // Operation 3: one step on a page that is lent.
-pub fn lend(page: Page, payload: &[u8]) -> Page {
+pub(crate) fn lend(page: Page, payload: &[u8]) -> Page {
     let request = asked(payload);
     if request.step == NO_STEP {
         return page;
@@ -97,12 +97,12 @@ pub fn lend(page: Page, payload: &[u8]) -> Page {
 }
 
 // Operation 4: a run.
-pub fn run(page: Page, payload: &[u8], buffer: &mut [u8]) -> Page {
+pub(crate) fn run(page: Page, payload: &[u8], buffer: &mut [u8]) -> Page {
     told(replay::run(page, payload, buffer))
 }
 
 // Operation 5: one request's bytes.
-pub fn write(payload: &[u8], buffer: &mut [u8]) {
+pub(crate) fn write(payload: &[u8], buffer: &mut [u8]) {
     let step = byte_at(payload, 0);
     let bucket = Bucket(byte_at(payload, 1));
     let clean = byte_at(payload, 2);
@@ -117,7 +117,7 @@ pub fn write(payload: &[u8], buffer: &mut [u8]) {
 }
 
 // Operation 7: a page read raw.
-pub fn put(page: Page, payload: &[u8]) -> Page {
+pub(crate) fn put(page: Page, payload: &[u8]) -> Page {
     if is_known(payload) {
         line(0);
         return decoding::decode(payload);
@@ -127,7 +127,7 @@ pub fn put(page: Page, payload: &[u8]) -> Page {
 }
 
 // Operation 8: the page of an image.
-pub fn restore(payload: &[u8]) -> Page {
+pub(crate) fn restore(payload: &[u8]) -> Page {
     let restored = image::read(payload);
     let answer = restored.answer;
     say(answer);
@@ -135,7 +135,7 @@ pub fn restore(payload: &[u8]) -> Page {
 }
 
 // Operation 9: the page's image.
-pub fn keep(page: Page, buffer: &mut [u8]) {
+pub(crate) fn keep(page: Page, buffer: &mut [u8]) {
     say(image::write(page, buffer));
 }
 
@@ -148,7 +148,7 @@ fn show(carry: Carry) {
 }
 
 // Operation 10: a piece.
-pub fn take(page: Page, carry: Carry, payload: &[u8], buffer: &mut [u8]) -> Taken {
+pub(crate) fn take(page: Page, carry: Carry, payload: &[u8], buffer: &mut [u8]) -> Taken {
     let taken = pieces::take(page, carry, payload, buffer);
     let answer = taken.answer;
     let left = taken.carry;
@@ -158,7 +158,7 @@ pub fn take(page: Page, carry: Carry, payload: &[u8], buffer: &mut [u8]) -> Take
 }
 
 // Operation 12: a carry as it stands.
-pub fn carry_from(payload: &[u8]) -> Carry {
+pub(crate) fn carry_from(payload: &[u8]) -> Carry {
     line(0);
     let mut bytes = [0u8; CARRY];
     for i in 0..CARRY {

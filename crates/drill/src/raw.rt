@@ -27,7 +27,7 @@ const LAST_PHASE: u8 = 3;
 const YES: u8 = 1;
 
 // Whether it has an image's length, and each number in it stands for something.
-pub fn is_known(payload: &[u8]) -> bool {
+pub(crate) fn is_known(payload: &[u8]) -> bool {
     if payload.len() != IMAGE {
         return false;
     }
