@@ -9,22 +9,22 @@ pub column-of-spec : {M : Type 1} → statement M
 column-of-spec =
     tie.close
     (tie.spec
-    (λ c. rw (c .if1 .taken))
+    (λ c. simp (c .if1 .taken))
     (λ c.
     let n = c .before .before .args .step in
     let some = c .before .if1 .left in
-    rw (le-leb 1 n (omega arith), lt-leb n 30 (omega arith)))
+    simp (le-leb 1 n (omega arith), lt-leb n 30 (omega arith)))
     (λ c. search needs)
     (λ c.
     let n = c .before .before .before .args .step in
     let some = c .before .before .if1 .left in
-    rw (le-leb 1 n (omega arith), le-leb n 30 (omega arith), lt-ltb n 6 (c .if3 .taken)))
+    simp (le-leb 1 n (omega arith), le-leb n 30 (omega arith), lt-ltb n 6 (omega arith)))
     (λ c. search needs)
     (λ c.
     let n = c .before .before .before .before .args .step in
     let some = c .before .before .before .if1 .left in
-    rw (le-leb 1 n (omega arith), le-leb n 30 (omega arith), le-ltb n 6 (c .before .if3 .left), c .if4 .taken))
+    simp (le-leb 1 n (omega arith), le-leb n 30 (omega arith), le-ltb n 6 (omega arith), c .if4 .taken))
     (λ c.
     let n = c .before .before .before .before .args .step in
     let some = c .before .before .before .if1 .left in
-    rw (le-leb 1 n (omega arith), le-leb n 30 (omega arith), le-ltb n 6 (c .before .if3 .left), c .if4 .left)))
+    simp (le-leb 1 n (omega arith), le-leb n 30 (omega arith), le-ltb n 6 (omega arith), c .if4 .left)))

@@ -1,5 +1,7 @@
--- `table::mark` meets its contract: each return, by what its tests, its matches and its calls showed. Assumes nothing.
-use borrow.Author.Tests.{eq-eqb, ne-eqb}
+-- `table::mark` meets its contract: the answer's number is 0 or not, as the test has it. Assumes nothing.
+use mathlib.Core.Path.{sym, _∙_}
+use borrow.Author.Tests.{ne-eqb}
+use Rattle.requests.specs.Answers.{answerNumber}
 use Rattle.table.proofs.mark.Statement.{statement}
 use Rattle.table.proofs.mark.Tie as tie
 
@@ -8,6 +10,10 @@ mark-spec =
     tie.close
     (tie.spec
     (λ c κs. tt)
-    (λ c. simp (ne-eqb _ _ (simp (c .before .answer-number .ensures) at (c .if1 .taken)), c .before .answer-number .ensures))
+    (λ c.
+    let told = c .before .answer-number .ensures in
+    simp (ne-eqb (answerNumber (c .before .before .args .out .answer)) 0 (λ z. c .if1 .taken (told ∙ z))))
     (λ c κs. tt)
-    (λ c. simp (c .before .before .flag-from .ensures, eq-eqb _ _ (simp (c .before .before .before .before .before .answer-number .ensures) at (c .before .before .before .before .if1 .left)), c .before .before .before .before .before .answer-number .ensures)))
+    (λ c.
+    let tested = c .before .before .before .before in
+    simp (c .before .before .flag-from .ensures, sym (tested .before .answer-number .ensures) ∙ tested .if1 .left)))

@@ -18,7 +18,7 @@ step-by-table-spec =
     (λ c κs. tt)
     (λ c.
     let sound = c .before .before .is-sound in
-    c .refuse .ensures ∙ sym (unsound-stays _ _ (fails-by (sound .ensures) (c .before .if1 .taken))))
+    search needs ∙ sym (unsound-stays _ _ (fails-by (sound .ensures) (c .before .if1 .taken))))
     (λ c κs. tt)
     (λ c. search needs)
     (λ c κs. tt)
@@ -34,7 +34,7 @@ step-by-table-spec =
     let read = c .before .before .before .before in
     let tested = read .before in
     let sound = tested .before .is-sound in
-    c .refuse2 .ensures
+    search needs
     ∙ sym
     (unfit-stays _ _ _ (is-true (holds-by (sound .ensures) (tested .if1 .left)))
     (sym (read .judge .ensures) ∙ c .before .before .verdict .given .1))))
