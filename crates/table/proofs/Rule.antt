@@ -1,7 +1,8 @@
 -- The table of flags is right (`rule`): one test shows that its rows are what RULES 7.5 has in words (`rows-say`), and what the words
 -- say holds of every sound page (Lands.antt) and is met by one (Exhibits.antt). No other number would do (`one-entry`). Every
--- well-formed request has a column (`columned`). Where its entry says never, the answer is 5 or 6 (`never-number`). So the engine
--- by the table is the step by value (`looked-up`). Assumes nothing.
+-- well-formed request has a column (`columned`); a number that is no step has no entry, and any clean but 1 is dirty (`no-step`,
+-- `other-clean`). Where an entry says never, the answer is 5 or 6 (`never-number`). So the engine by the table is the step by value
+-- (`looked-up`). Assumes nothing.
 use Prim.Native.Nat.{ℕ, _<_}
 use mathlib.Core.Path.{_≡_, refl, sym, ap, _∙_}
 use mathlib.Core.Bool.{Bool, true, false, cond, _&&_}
@@ -35,6 +36,7 @@ use Rattle.table.specs.Next.{Next, nextNumber, nextFlag}
 use Rattle.table.specs.Entry.{Asks, Takes, Entry, none, some}
 use Rattle.table.specs.Engine.{whyNever, marked, taken, lookedUp}
 use Rattle.table.proofs.Flags.{at-place, flag-below}
+use Rattle.table.proofs.Rows.{past-row}
 use Rattle.table.proofs.Lands.{Decides, decides}
 use Rattle.table.proofs.Exhibits.{page, request, exhibited}
 
@@ -120,6 +122,15 @@ columned q e =
     let u = rw (to-true (isStep n && most) (both (isStep n) most (p .0) clean)) at t in
     let w = simp and-iff at u in
     (ltb→lt _ columns (w .0 .0), record { step = eqb→eq _ _ (w .0 .1); clean = eqb→eq _ _ (w .1) })
+
+-- ---- whatever is asked for
+-- a number that is no step has none
+pub no-step : (f : Flag) (n clean : ℕ) → isStep n ≡ false → entryOf f n clean ≡ never
+no-step f n clean e = simp e (past-row f columns (omega arith))
+
+-- any clean but 1 is dirty
+pub other-clean : (f : Flag) (n clean : ℕ) → eqb clean 1 ≡ false → entryOf f n clean ≡ entryOf f n 0
+other-clean f n clean e = simp e
 
 -- ---- the engine
 module _ (p : Page) (q : Request) (t : T (soundOf p)) (fit : judged q ≡ Verdict.Passed) where
