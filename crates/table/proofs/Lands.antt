@@ -32,6 +32,7 @@ use Rattle.table.proofs.Flags.{flag-told}
 use Rattle.table.proofs.Stands.{seen, seen-is}
 
 -- ---- one test
+-- a flag: the step leaves this one, whatever is asked of it besides. None: its first premise that fails is the flag's or the holder's
 abbrev landsAs : Next → Step → Bool → Bool
 landsAs (Next.to g) st lets = eqb (flagNumber (st .head .flag)) (flagNumber g)
 landsAs Next.nowhere st lets = eqb (verdictNumber (verdict (st .premises))) (refusalNumber (whyNever lets))
@@ -64,11 +65,12 @@ module _ (b : Bucket) (v : ℕ) (o : Found) (full : Bool) where
   at-shape (editing m false v) cs = tt
 
 -- ---- what it says of a decision
+-- a flag: the head has it where the step is accepted. None: it is refused, with 5 or 6
 abbrev pub Decides : Next → Bool → Head → Decision → Type 0
 Decides (Next.to g) lets h d = answerNumber (d .answer) ≡ 0 → d .head .flag ≡ g
 Decides Next.nowhere lets h d = d ≡ refused h (whyNever lets)
 
--- a number is no refusal's twice
+-- a reason is told by its number
 why-told : (lets : Bool) (why : Refusal) → refusalNumber why ≡ refusalNumber (whyNever lets) → why ≡ whyNever lets
 why-told lets why e = sym (reason-told why) ∙ ap reasonAt e ∙ reason-told (whyNever lets)
 

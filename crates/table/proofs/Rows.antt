@@ -1,13 +1,11 @@
--- The rows of the table: each has 31 entries (`past-row`), one after the other they are the array (`array-at`), and 93 of these are
--- flags (`ninety-three`). Assumes nothing.
+-- The rows of the table: each has 31 entries (`past-row`), and one after the other they are the array (`array-at`). Assumes nothing.
 use Prim.Native.Nat.{ℕ, _+_, _*_, _<_, _≤_}
-use mathlib.Core.Path.{_≡_, refl}
-use mathlib.Core.Bool.{not}
+use mathlib.Core.Path.{_≡_}
 use mathlib.Core.List.{List, [], _∷_, _++_, map}
 use native.Mathlib.Omega.{arith}
 use lib.Dec.{T, eqb, eqb→eq}
 use lib.ListN.{length, getD, List·getD-eq-default}
-use Rattle.laws.specs.Lists.{tally, every}
+use Rattle.laws.specs.Lists.{every}
 use Rattle.laws.proofs.Pick.{eachBelow}
 use Rattle.kinds.specs.declared.Flag.{Flag}
 use Rattle.kinds.specs.Numbers.{flagNumber, flags}
@@ -35,6 +33,3 @@ places = tt
 pub array-at : (f : Flag) (c : ℕ) → c < columns → getD array (columns * flagNumber f + c) 0 ≡ entryAt f c
 array-at f c k =
     eqb→eq _ _ (at-place (λ f c. eqb (getD array (columns * flagNumber f + c) 0) (entryAt f c)) places f c k)
-
-pub ninety-three : tally (λ n. not (eqb n never)) array ≡ 93
-ninety-three = refl

@@ -1,15 +1,15 @@
--- The table of flags is right (`rule`): one test shows that its rows are what RULES 7.5 has in words (`rows-say`), and what the words
--- say holds of every sound page (Lands.antt) and is met by one (Exhibits.antt). No other number would do (`one-entry`). Every
--- well-formed request has a column (`columned`); a number that is no step has no entry, and any clean but 1 is dirty (`no-step`,
--- `other-clean`). Where an entry says never, the answer is 5 or 6 (`never-number`). So the engine by the table is the step by value
--- (`looked-up`). Assumes nothing.
+-- The table of flags is right (`rule`): one test shows that its rows are what RULES 7.5 has in words (`rows-say`; 93 of them are flags,
+-- `ninety-three`), and what the words say holds of every sound page (Lands.antt) and is met by one (Exhibits.antt). No other number
+-- would do (`one-entry`). Every well-formed request has a column (`columned`); a number that is no step has no entry, and any clean
+-- but 1 is dirty (`no-step`, `other-clean`). Where an entry says never, the answer is 5 or 6 (`never-number`). So the engine by the
+-- table is the step by value (`looked-up`). Assumes nothing.
 use Prim.Native.Nat.{ℕ, _<_}
 use mathlib.Core.Path.{_≡_, refl, sym, ap, _∙_}
-use mathlib.Core.Bool.{Bool, true, false, cond, _&&_}
+use mathlib.Core.Bool.{Bool, true, false, not, cond, _&&_}
 use native.Mathlib.Omega.{arith}
 use borrow.Author.Tests.{ne-eqb}
 use lib.Dec.{T, eqb, ltb, leb, eqb→eq, ltb→lt}
-use Rattle.laws.specs.Lists.{every}
+use Rattle.laws.specs.Lists.{tally, every}
 use Rattle.laws.proofs.Tests.{is-true, to-true, both, and-iff}
 use Rattle.laws.proofs.Pick.{eachBelow, each-below}
 use Rattle.kinds.specs.declared.Flag.{Flag}
@@ -36,7 +36,7 @@ use Rattle.table.specs.Next.{Next, nextNumber, nextFlag}
 use Rattle.table.specs.Entry.{Asks, Takes, Entry, none, some}
 use Rattle.table.specs.Engine.{whyNever, marked, taken, lookedUp}
 use Rattle.table.proofs.Flags.{at-place, flag-below}
-use Rattle.table.proofs.Rows.{past-row}
+use Rattle.table.proofs.Rows.{array, past-row}
 use Rattle.table.proofs.Lands.{Decides, decides}
 use Rattle.table.proofs.Exhibits.{page, request, exhibited}
 
@@ -47,6 +47,10 @@ rows-say = tt
 
 entry-says : (f : Flag) (c : ℕ) → c < columns → entryAt f c ≡ nextNumber (nextFlag f c)
 entry-says f c k = eqb→eq _ _ (at-place (λ f c. eqb (entryAt f c) (nextNumber (nextFlag f c))) rows-say f c k)
+
+-- so many are flags
+pub ninety-three : tally (λ n. not (eqb n never)) array ≡ 93
+ninety-three = refl
 
 -- ---- the words and the step
 -- what is accepted is well formed

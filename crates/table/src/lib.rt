@@ -1,5 +1,4 @@
-// The lock by a table of flags: which flag follows which, and a step that looks there first. What no page with this flag accepts is
-// refused before a reader is searched for.
+// The lock by a table of flags: which flag follows which (RULES 7.5), and a step that looks there first (RULES 7.6).
 ghost use mathlib.Core.Path.{_≡_};
 ghost use Rattle.lock.specs.Applies.{flagLets};
 ghost use Rattle.lock.specs.Step.{stepOf};
@@ -31,7 +30,8 @@ use requests::answer_number;
 use requests::judge;
 use soundness::is_sound;
 
-// The column of a step, or 31 for a number that is no step.
+// The column of a step, or 31 for a number that is no step. 6 has two, and the clean one comes first: so every step before it stands
+// one to the left of its number.
 fn column_of(step: u8, clean: u8) -> usize
     ensures { λ r. ⌜ r ≡ columnOf step clean ⌝ }
 {
@@ -97,7 +97,8 @@ fn mark(out: Outcome, number: u8) -> Outcome
     }
 }
 
-// A request whose fields are in order, on a page that was judged.
+// A request whose fields are in order, on a page that was judged: what nobody accepts is refused at once, before a reader is searched
+// for or a premise is looked at.
 fn look_up(page: Page, request: Request) -> Outcome
     ensures { λ r. ⌜ r ≡ lookedUp page request ⌝ }
 {
