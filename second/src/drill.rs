@@ -5,13 +5,14 @@
 
 use std::io::{self, BufReader, BufWriter, Read, Write};
 
+use crate::engine::step_by_table;
 use crate::image::{read_image, write_image};
 use crate::kinds::{answer_number, Answer, Refusal, Request};
 use crate::pieces::{finish, take, Carry};
 use crate::raw::{read_raw, reader_bytes};
 use crate::record::{census, fresh, judge_record, lowest_broken_rule, Page};
 use crate::run::run;
-use crate::steps::{step, step_in_place};
+use crate::steps::{step, step_in_place, Outcome};
 use crate::wire::{answer_bytes, read_request, value_at, write_request, RECORD};
 
 /// The most bytes that are read; the input counts as ended there.
@@ -100,6 +101,9 @@ fn read_up_to(input: &mut impl Read, length: usize) -> io::Result<Vec<u8>> {
     Ok(bytes)
 }
 
+/// What takes one step by value.
+type Engine = fn(Page, &Request) -> Outcome;
+
 /// What the drill keeps from one operation to the next.
 pub struct Drill {
     page: Page,
@@ -132,7 +136,7 @@ impl Drill {
         let payload = &operation.payload;
         Some(match operation.number {
             1 => self.fresh(a),
-            2 => self.step(payload),
+            2 => self.step(step, payload),
             3 => self.step_lent(payload),
             4 => self.run(payload, a),
             5 => write_back(payload, a),
@@ -143,6 +147,7 @@ impl Drill {
             10 => self.take(payload, a),
             11 => answer(finish(&self.carry)),
             12 => self.set_carry(payload),
+            13 => self.step(step_by_table, payload),
             _ => return None,
         })
     }
@@ -152,9 +157,10 @@ impl Drill {
         answer(Ok(None))
     }
 
-    fn step(&mut self, payload: &[u8]) -> Vec<u8> {
+    /// One step by value, by either engine.
+    fn step(&mut self, engine: Engine, payload: &[u8]) -> Vec<u8> {
         answer(read_request(payload).and_then(|request| {
-            let outcome = step(self.page.clone(), &request);
+            let outcome = engine(self.page.clone(), &request);
             self.page = outcome.page;
             outcome.answer
         }))

@@ -8,6 +8,7 @@
 //! `drill` does them; whatever stream goes in, both drills must write the same.
 
 pub mod drill;
+pub mod engine;
 pub mod image;
 pub mod kinds;
 pub mod ops;
@@ -17,5 +18,6 @@ pub mod readers;
 pub mod record;
 pub mod run;
 pub mod steps;
+pub mod table;
 pub mod wire;
 pub mod words;

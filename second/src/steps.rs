@@ -77,7 +77,7 @@ pub fn judge_bucket(request: &Request) -> Result<(), Refusal> {
 }
 
 /// The step itself, on a sound record and for a request that was judged.
-fn take(page: &mut Page, request: &Request) -> Answer {
+pub(crate) fn take(page: &mut Page, request: &Request) -> Answer {
     let bucket = BucketId(request.bucket);
     let clean = request.clean == 1;
     let value = request.value;

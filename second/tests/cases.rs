@@ -4,6 +4,7 @@ mod common;
 
 use common::history::History;
 use common::lists::{rows, Row};
+use second::engine::step_by_table;
 use second::image::{read_image, write_image};
 use second::kinds::{Answer, BucketId, ExcState, Flag, Refusal, Request, SharedState, StoredType};
 use second::record::{fresh, sound, Page};
@@ -56,6 +57,8 @@ fn play(mut page: Page, lines: &[Line]) -> Page {
     for (number, line) in lines.iter().enumerate() {
         let before = page.clone();
         let outcome = step(page, &line.request);
+        let by_table = step_by_table(before.clone(), &line.request);
+        assert_eq!(by_table, outcome, "by the table at {number}");
         page = outcome.page;
         assert_eq!(outcome.answer, line.answer, "answer at {number}");
         assert_eq!(page.flag, line.flag, "flag at {number}");

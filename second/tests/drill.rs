@@ -124,8 +124,8 @@ fn a_payload_may_have_65536_bytes_and_no_more() {
 }
 
 #[test]
-fn only_operations_1_to_12_are_listed() {
-    for number in (0..=255).filter(|number| !(1..=12).contains(number)) {
+fn only_operations_1_to_13_are_listed() {
+    for number in (0..=255).filter(|number| !(1..=13).contains(number)) {
         ends(&op(number, 0, &[]));
         ends(&op(number, 16, &ask(19, 0, 0, 0)));
     }
@@ -238,7 +238,7 @@ fn a_payload_that_is_not_needed_is_dropped() {
     assert_eq!(answers(&stream), expected);
 }
 
-// Operations 1 to 3.
+// Operations 1 to 3, and 13.
 
 #[test]
 fn operation_1_makes_the_page_fresh() {
@@ -252,10 +252,13 @@ fn operation_1_makes_the_page_fresh() {
     assert_eq!(answers(&stream), [line(0), line(0), seen.to_vec()].concat());
 }
 
+/// The operations that take one step: by value, lent, and by the table.
+const SINGLE: [u8; 3] = [2, 3, 13];
+
 /// Case A, and the value that a withdrawal carries.
 #[test]
-fn operations_2_and_3_take_one_step() {
-    for number in [2, 3] {
+fn operations_2_3_and_13_take_one_step() {
+    for number in SINGLE {
         let stream = [
             op(1, 0x0102_0304_0506_0708, &[]),
             op(number, 0, &ask(12, 0, 0, 0)),
@@ -275,7 +278,7 @@ fn operations_2_and_3_take_one_step() {
 
 /// Case B: what one operation leaves is where the next one starts.
 #[test]
-fn operations_2_and_3_by_turns() {
+fn operations_2_3_and_13_by_turns() {
     let steps: [(Vec<u8>, Vec<u8>); 8] = [
         (ask(11, 0, 0, 0), vec![0, 1, 0, 0, 0, 0, 0, 0]),
         (ask(13, 2, 0, 0), vec![0; 8]),
@@ -286,11 +289,11 @@ fn operations_2_and_3_by_turns() {
         (ask(17, 0, 0, 5), vec![0; 8]),
         (ask(24, 1, 0, 0), vec![0; 8]),
     ];
-    for first in [2, 3] {
+    for first in 0..3 {
         let mut stream = Vec::new();
         let mut expected = Vec::new();
-        for (place, (request, start)) in steps.iter().enumerate() {
-            let number = if place % 2 == 0 { first } else { 5 - first };
+        let turns = SINGLE.into_iter().cycle().skip(first);
+        for ((request, start), number) in steps.iter().zip(turns) {
             stream.extend(op(number, 0, request));
             expected.extend(start);
             expected.extend([0; 8]);
@@ -300,6 +303,37 @@ fn operations_2_and_3_by_turns() {
         expected.extend([3, 1, 1, 0, 0, 1, 0, 0, 5, 0, 0, 0, 0, 0, 0, 0]);
         expected.extend([3, 1, 0, 0, 0, 0, 0, 0, 5, 0, 0, 0, 0, 0, 0, 0]);
         assert_eq!(output(&stream), expected);
+    }
+}
+
+/// A step on the way, the flag that it leaves, and steps that are never accepted under
+/// that flag, with the answer.
+type OnTheWay = (u8, u8, [(u8, u8); 6]);
+
+/// By all three operations: 5 where the flag is not one to start from, else 6, and the
+/// page stays as it was.
+#[test]
+fn steps_that_are_never_accepted_under_a_flag() {
+    let way: [OnTheWay; 4] = [
+        (19, 0, [(21, 6), (24, 6), (23, 5), (6, 6), (1, 5), (2, 6)]),
+        (11, 2, [(21, 6), (24, 6), (23, 5), (6, 6), (12, 5), (17, 6)]),
+        (15, 1, [(24, 5), (22, 6), (6, 6), (11, 5), (14, 6), (30, 6)]),
+        (17, 3, [(11, 5), (6, 6), (16, 6), (25, 6), (2, 6), (30, 6)]),
+    ];
+    let mut stream = Vec::new();
+    for (place, (step, flag, never)) in way.into_iter().enumerate() {
+        stream.extend(op(2, 0, &ask(step, 0, 0, 0)));
+        let written = output(&[&stream[..], &look()].concat());
+        let (before, seen) = written.split_at(16 * (place + 1));
+        assert_eq!(seen[16], flag);
+        for number in SINGLE {
+            for (step, refusal) in never {
+                let asked = op(number, 0, &ask(step, 0, 0, 0));
+                let written = output(&[&stream[..], &asked, &look()].concat());
+                let expected = [before, &line(refusal), seen].concat();
+                assert_eq!(written, expected, "{flag} {step}");
+            }
+        }
     }
 }
 
@@ -330,7 +364,7 @@ fn unreadable() -> Vec<(Vec<u8>, u8)> {
 
 #[test]
 fn a_request_that_reading_refuses_gets_that_refusal() {
-    for number in [2, 3] {
+    for number in SINGLE {
         for (request, refusal) in unreadable() {
             let stream = [op(number, 0, &request), look()];
             let expected = [&line(refusal)[..], &FRESH].concat();
@@ -341,7 +375,7 @@ fn a_request_that_reading_refuses_gets_that_refusal() {
 
 #[test]
 fn reading_comes_before_the_page_is_judged() {
-    for number in [2, 3] {
+    for number in SINGLE {
         for (request, refusal) in unreadable() {
             let stream = [op(7, 0, &unsound()), op(number, 0, &request)];
             assert_eq!(answers(&stream), [line(0), line(refusal)].concat());
@@ -619,17 +653,19 @@ fn busy_page_acts(operation: u8, payload: &[u8]) {
         (ask(9, 0, 0, 9), line(17)),
         (ask(9, 0, 0, value), line(0)),
     ];
-    let mut stream = op(operation, 0, payload);
-    let mut expected = line(0);
-    for (request, answer) in requests {
-        stream.extend(op(3, 0, &request));
-        expected.extend(answer);
+    for number in SINGLE {
+        let mut stream = op(operation, 0, payload);
+        let mut expected = line(0);
+        for (request, answer) in &requests {
+            stream.extend(op(number, 0, request));
+            expected.extend(answer);
+        }
+        stream.extend(look());
+        expected.extend([0, 0, 0, 0, 0, 0, 0, 0, 0, 0, 0, 0, 1, 0, 0, 0]);
+        expected.extend([3, 1, 1, 0, 0, 0, 1, 0, 1, 2, 3, 4, 5, 6, 7, 8]);
+        expected.extend([3, 2, 0, 0, 0, 0, 0, 0, 1, 2, 3, 4, 5, 6, 7, 8]);
+        assert_eq!(output(&stream), expected);
     }
-    stream.extend(look());
-    expected.extend([0, 0, 0, 0, 0, 0, 0, 0, 0, 0, 0, 0, 1, 0, 0, 0]);
-    expected.extend([3, 1, 1, 0, 0, 0, 1, 0, 1, 2, 3, 4, 5, 6, 7, 8]);
-    expected.extend([3, 2, 0, 0, 0, 0, 0, 0, 1, 2, 3, 4, 5, 6, 7, 8]);
-    assert_eq!(output(&stream), expected);
 }
 
 /// A loader without a bucket beside readers at bucket 0, of both phases, and at
@@ -1155,9 +1191,9 @@ fn the_short_limits() {
 // Giving back.
 
 /// What is written after the page of this operation and payload is asked this,
-/// by value and lent, which is the same.
+/// by value, lent and by the table, which is the same.
 fn asked_of(operation: u8, payload: &[u8], request: Vec<u8>) -> Vec<u8> {
-    let written = [2, 3].map(|number| {
+    let written = SINGLE.map(|number| {
         let stream = [
             op(operation, 0, payload),
             op(number, 0, &request),
@@ -1166,7 +1202,7 @@ fn asked_of(operation: u8, payload: &[u8], request: Vec<u8>) -> Vec<u8> {
         ];
         answers(&stream)
     });
-    assert_eq!(written[0], written[1]);
+    assert!(written.iter().all(|other| *other == written[0]));
     assert_eq!(written[0][..16], line(0));
     written[0][16..].to_vec()
 }
@@ -1426,6 +1462,7 @@ fn the_fields_of_the_steps_that_give_back() {
             let stream = [
                 op(2, 0, &request),
                 op(3, 0, &request),
+                op(13, 0, &request),
                 op(4, 16, &request),
                 op(5, 16, &request),
                 look(),
@@ -1435,6 +1472,7 @@ fn the_fields_of_the_steps_that_give_back() {
                 _ => (0, request),
             };
             let expected = [
+                line(number),
                 line(number),
                 line(number),
                 line(0),
@@ -1460,8 +1498,8 @@ fn entry(reader: SharedState) -> Vec<u8> {
     ask(phase, bucket.0, 0, value)
 }
 
-/// The exact lists, as a look shows them and as an image has them: by value and
-/// lent by turns, and in a run.
+/// The exact lists, as a look shows them and as an image has them: by value, lent and
+/// by the table by turns, and in a run.
 #[test]
 fn exact_lists() {
     for Row { requests, list } in rows() {
@@ -1469,8 +1507,8 @@ fn exact_lists() {
             .iter()
             .map(|request| ask(request.step, request.bucket, 0, request.value))
             .collect();
-        let by_turns = |first: u8| -> Vec<u8> {
-            let turns = [first, 5 - first].into_iter().cycle();
+        let by_turns = |first: usize| -> Vec<u8> {
+            let turns = SINGLE.into_iter().cycle().skip(first);
             let single = asked.iter().zip(turns);
             single.flat_map(|(request, n)| op(n, 0, request)).collect()
         };
@@ -1479,8 +1517,9 @@ fn exact_lists() {
         let lines = 16 * asked.len();
         let run = op(4, lines as u64, &asked.concat());
         let streams = [
+            (by_turns(0), lines),
+            (by_turns(1), lines),
             (by_turns(2), lines),
-            (by_turns(3), lines),
             (run, 16 + lines),
         ];
         for (stream, answered) in streams {

@@ -385,6 +385,8 @@ fn other_operations_leave_the_carry() {
         op(2, 0, &CASE_A[..16]),
         op(3, 0, &CASE_A[16..]),
         op(2, 0, &[]),
+        op(13, 0, &CASE_A[..16]),
+        op(13, 0, &[]),
         op(4, 32, &CASE_A),
         op(4, 0, &CASE_A),
         op(5, 16, &CASE_A),

@@ -5,7 +5,7 @@ mod common;
 use std::collections::BTreeSet;
 
 use common::history::History;
-use common::{leaver, operations, walks, Asked};
+use common::{leaver, manners, operations, walks, Asked};
 use second::drill::{program, Drill, Operation};
 use second::kinds::{
     answer_number, ExcState, Flag, LoadingState, Refusal, SharedState, StoredType, CAPACITY,
@@ -14,6 +14,7 @@ use second::kinds::{
 use second::ops::ends::{end_of, End, ENDS};
 use second::ops::pages::{main_pages, more_pages, more_without_meaning, without_meaning};
 use second::ops::removals::REMOVALS;
+use second::ops::stream::Stream;
 use second::ops::{stream, Plan, REQUESTS};
 use second::pieces::Carry;
 use second::raw::{read_raw, write_raw};
@@ -24,6 +25,7 @@ use second::record::{
 };
 use second::run::{answer_line, run};
 use second::steps::step;
+use second::table::{column, entry, NEVER};
 use second::wire::read_request;
 
 fn short(seed: u64) -> Vec<u8> {
@@ -52,8 +54,8 @@ fn a_stream_is_made_the_same_again() {
 #[test]
 fn the_first_stream_is_small() {
     let stream = short(1);
-    assert!((80_000..=555_400).contains(&stream.len()));
-    assert!(answers(&stream).len() <= 854_000);
+    assert!((80_000..=595_100).contains(&stream.len()));
+    assert!(answers(&stream).len() <= 914_600);
 }
 
 #[test]
@@ -65,18 +67,19 @@ fn a_stream_may_have_no_walks_and_any_seed() {
     }
 }
 
-/// How a request is made.
+/// How a request is made. One by the table is by value, too.
 const BY_VALUE: usize = 0;
 const LENT: usize = 1;
 const IN_A_RUN: usize = 2;
+const BY_TABLE: usize = 3;
 
 /// What occurs in a stream.
 #[derive(Default)]
 struct Seen {
     /// The steps that were accepted, by how they were made.
-    accepted: [BTreeSet<u8>; 3],
+    accepted: [BTreeSet<u8>; 4],
     /// The numbers that were given to requests, by how they were made.
-    numbers: [BTreeSet<u8>; 3],
+    numbers: [BTreeSet<u8>; 4],
     /// The numbers that were given to runs as a whole.
     runs: BTreeSet<u8>,
     /// The numbers that were given to pieces as a whole, and where they ended.
@@ -154,6 +157,10 @@ impl Seen {
             9 => self.wrote(written[0], operation.a, page),
             10 => _ = self.pieces.insert(written[0]),
             11 => _ = self.finished.insert(written[0]),
+            13 => {
+                self.answered(BY_VALUE, &operation.payload, written);
+                self.answered(BY_TABLE, &operation.payload, written);
+            }
             _ => (),
         }
     }
@@ -222,9 +229,10 @@ fn set(numbers: impl IntoIterator<Item = u8>) -> BTreeSet<u8> {
 
 /// What one short stream has to have, and many streams of course.
 fn everything(seen: &Seen) {
-    for manner in [BY_VALUE, LENT] {
+    for manner in [BY_VALUE, LENT, BY_TABLE] {
         assert_eq!(seen.numbers[manner], set((0..=12).chain([17])));
     }
+    assert_eq!(seen.accepted[BY_TABLE], set(1..=30));
     assert_eq!(
         seen.numbers[IN_A_RUN],
         set([0, 2, 3, 4, 5, 6, 7, 8, 9, 10, 11, 17])
@@ -235,7 +243,7 @@ fn everything(seen: &Seen) {
     let rules: BTreeSet<_> = (0..=8).map(|rule| (u8::from(rule > 0), rule)).collect();
     assert_eq!(seen.rules, rules);
     assert_eq!(seen.flags, set(0..=10));
-    assert_eq!(seen.operations, set(1..=12));
+    assert_eq!(seen.operations, set(1..=13));
     assert_eq!(seen.pieces, set([0, 1, 12, 13, 14]));
     assert_eq!(seen.finished, set([0, 12]));
     for holders in [&seen.holders, &seen.kept.holders] {
@@ -422,7 +430,9 @@ impl Returns {
             for asked in walk.asked.iter().filter(|asked| asked.bytes.len() == 16) {
                 let number = asked.bytes[0];
                 let answer = answer_number(&asked.answer);
-                seen.numbers.insert((asked.operation, number, answer));
+                let manners = manners(asked.operation).into_iter();
+                seen.numbers
+                    .extend(manners.map(|operation| (operation, number, answer)));
                 match (number, answer) {
                     (8, 0) => seen.edited += 1,
                     (11 | 12, 0) if unmapped => seen.loaded_again.push(number),
@@ -481,8 +491,10 @@ const GIVEN_UNDER: [(u8, [u8; 2]); 6] = [
 
 #[test]
 fn every_stream_gives_back_in_every_manner() {
+    let mut by_table = BTreeSet::new();
     for seed in 1..=40 {
         let seen = Returns::of(&short(seed));
+        by_table.extend(seen.numbers.iter().filter(|asked| asked.0 == 13).copied());
         for number in 25..=30 {
             let single: &[u8] = if number == 26 {
                 &[0, 1, 3, 6, 7, 11]
@@ -510,6 +522,17 @@ fn every_stream_gives_back_in_every_manner() {
                 assert!(seen.numbers.contains(&asked), "seed {seed}: {asked:?}");
             }
         }
+    }
+    for number in 25..=30 {
+        for answer in [0, 1, 3, 6] {
+            assert!(
+                by_table.contains(&(13, number, answer)),
+                "{number} {answer}"
+            );
+        }
+    }
+    for answer in [7, 11] {
+        assert!(by_table.contains(&(13, 26, answer)), "{answer}");
     }
 }
 
@@ -599,7 +622,8 @@ impl Deposits {
         if DEPOSITS.contains(&request.step) {
             let answer = answer_number(&asked.answer);
             let put = (request.step, clean, request.value == value, answer);
-            self.asked.insert((asked.operation, put));
+            let manners = manners(asked.operation).into_iter();
+            self.asked.extend(manners.map(|operation| (operation, put)));
             self.origins.insert((origin, put));
         }
     }
@@ -648,7 +672,7 @@ fn forty_streams_put_in_everything() {
         for number in DEPOSITS {
             for (clean, kept) in [(true, true), (false, true), (false, false)] {
                 let put = (number, clean, kept, 0);
-                for operation in [2, 3, 4] {
+                for operation in [2, 3, 4, 13] {
                     let asked = (operation, put);
                     assert!(seen.iter().any(|s| s.asked.contains(&asked)), "{asked:?}");
                 }
@@ -670,7 +694,7 @@ fn other_values(seed: u64, requests: usize) -> usize {
     let mut drill = Drill::start();
     let asked = operations(&stream).0.into_iter().filter_map(|operation| {
         let written = drill.perform(&operation).unwrap();
-        matches!(operation.number, 2..=4).then_some(written)
+        matches!(operation.number, 2..=4 | 13).then_some(written)
     });
     asked
         .map(|written| written.chunks(16).filter(|line| line[0] == 17).count())
@@ -781,10 +805,12 @@ impl Removals {
         let listed = page.shared_state.listed();
         let place = listed.iter().position(|&listed| listed == reader).unwrap();
         for gap in gaps(listed, place) {
-            let seen = (operation.number, last[0], gap);
-            self.looked.insert(seen);
-            if image {
-                self.imaged.insert(seen);
+            for operation in manners(operation.number) {
+                let seen = (operation, last[0], gap);
+                self.looked.insert(seen);
+                if image {
+                    self.imaged.insert(seen);
+                }
             }
             if listed.len() == CAPACITY {
                 self.full.insert((last[0], gap));
@@ -799,7 +825,7 @@ fn last_request(operation: &Operation) -> Option<(&[u8], &[u8])> {
     let payload = &operation.payload;
     let length = payload.len();
     let asks = match operation.number {
-        2 | 3 => length == 16,
+        2 | 3 | 13 => length == 16,
         4 => length > 0 && length.is_multiple_of(16) && operation.a >= length as u64,
         _ => false,
     };
@@ -909,7 +935,8 @@ impl Pieces {
                 }
                 _ => (),
             }
-            if operation.number < 10 && carry.len > 0 && next.first() == Some(&10) {
+            let other = !(10..=12).contains(&operation.number);
+            if other && carry.len > 0 && next.first() == Some(&10) {
                 self.between.insert(operation.number);
             }
         }
@@ -1012,7 +1039,7 @@ fn every_stream_takes_pieces_of_every_kind() {
                 );
             }
         }
-        for number in 1..=9 {
+        for number in (1..=9).chain([13]) {
             assert!(seen.between.contains(&number), "seed {seed}: {number}");
         }
         assert!(seen.most > 2_048, "seed {seed}: {}", seen.most);
@@ -1076,6 +1103,103 @@ fn forty_streams_and_a_long_one_have_everything_in_pieces() {
         }
     }
     assert_eq!(seen.grounds.len(), 15);
+}
+
+/// What a stream has of the table: places of it, by the flag's number and the column,
+/// that operation 13 met with a good request on a sound page, where a look comes next.
+#[derive(Default)]
+struct Entries {
+    /// Those that are flags, where the request was accepted.
+    taken: BTreeSet<(u8, usize)>,
+    /// Those that are never, with the answer.
+    never: BTreeSet<(u8, usize, u8)>,
+    /// The numbers that were given on sound pages and on others.
+    numbers: BTreeSet<(bool, u8)>,
+    /// The steps that were asked where the page was not sound, and the lowest rules
+    /// that it broke.
+    unsound: BTreeSet<u8>,
+    rules: BTreeSet<u8>,
+}
+
+impl Entries {
+    fn of(stream: &[u8]) -> Entries {
+        let mut seen = Entries::default();
+        let mut drill = Drill::start();
+        let operations = operations(stream).0;
+        for (place, operation) in operations.iter().enumerate() {
+            let page = drill.page().clone();
+            let written = drill.perform(operation).unwrap();
+            if operation.number == 13 {
+                let next = operations.get(place + 1);
+                let looked = next.is_some_and(|next| next.number == 6);
+                seen.add(&page, &operation.payload, written[0], looked);
+            }
+        }
+        seen
+    }
+
+    fn add(&mut self, page: &Page, payload: &[u8], number: u8, looked: bool) {
+        self.numbers.insert((sound(page), number));
+        let Ok(request) = read_request(payload) else {
+            return;
+        };
+        if let Some(rule) = lowest_broken_rule(page) {
+            self.unsound.insert(request.step);
+            self.rules.insert(rule);
+            return;
+        }
+        let flag = page.flag.number();
+        let column = column(request.step, request.clean).unwrap();
+        if entry(page.flag, request.step, request.clean) == NEVER {
+            if looked {
+                self.never.insert((flag, column, number));
+            }
+        } else if looked && number == 0 {
+            self.taken.insert((flag, column));
+        }
+    }
+}
+
+/// Each never has one answer, which is 5 or 6. Among all streams a good request meets
+/// every broken rule.
+#[test]
+fn every_stream_goes_through_the_table() {
+    let mut rules = BTreeSet::new();
+    for stream in (1..=40).map(short).chain([long(2)]) {
+        let seen = Entries::of(&stream);
+        assert_eq!((seen.taken.len(), seen.never.len()), (93, 248));
+        let numbers = seen.never.iter().map(|(_, _, number)| *number);
+        assert_eq!(set(numbers), set([5, 6]));
+        assert_eq!(seen.unsound, set(1..=30));
+        for number in [12, 2, 3, 4] {
+            for sound in [false, true] {
+                assert!(seen.numbers.contains(&(sound, number)), "{sound} {number}");
+            }
+        }
+        for number in [0, 5, 6, 7, 8, 9, 10, 11, 17] {
+            assert!(seen.numbers.contains(&(true, number)), "{number}");
+        }
+        assert!(seen.numbers.contains(&(false, 1)));
+        rules.extend(seen.rules);
+    }
+    assert_eq!(rules, set(1..=8));
+}
+
+/// Half of the steps by value.
+#[test]
+fn steps_by_value_go_by_either_engine() {
+    for seed in 1..=5 {
+        let mut stream = Stream::start(seed);
+        for _ in 0..2_000 {
+            stream.ask(&[2; 16]);
+        }
+        let bytes = stream.bytes();
+        let numbers: Vec<u8> = bytes.chunks(32).map(|operation| operation[0]).collect();
+        let often = |number| numbers.iter().filter(|&&other| other == number).count();
+        assert_eq!(often(3), 1_000);
+        assert_eq!(often(2) + often(13), 1_000);
+        assert!((450..=550).contains(&often(13)), "{}", often(13));
+    }
 }
 
 /// The lengths of runs, of payloads and of buffers that are at a limit.

@@ -5,7 +5,7 @@ mod common;
 
 use std::collections::BTreeSet;
 
-use common::{operations, walks};
+use common::{manners, operations, walks};
 use second::drill::{Drill, Operation};
 use second::image::read_image;
 use second::kinds::{answer_number, ExcState, LoadingState};
@@ -316,8 +316,8 @@ impl Short {
                 9 if read.is_some() && !went_on => {
                     seen.rooms.insert((operation.a, done.number));
                 }
-                2..=4 | 10 if read.is_some() && done.before != done.after => {
-                    seen.accepted.insert(operation.number);
+                2..=4 | 10 | 13 if read.is_some() && done.before != done.after => {
+                    seen.accepted.extend(manners(operation.number));
                     let over = counts(&done.after).into_iter().max() > Some(31);
                     seen.past_limits += usize::from(over || listed(&done.after) > 64);
                 }
@@ -355,7 +355,8 @@ fn met(stream: &[u8]) -> BTreeSet<(u8, u8, u8, bool)> {
             let (step, bucket) = (asked.bytes[0], usize::from(asked.bytes[1]));
             let full = listed(&asked.before) == 256;
             let both = full && step == 19 && counts(&asked.before)[bucket] == 127;
-            seen.insert((asked.operation, step, number, both));
+            let manners = manners(asked.operation).into_iter();
+            seen.extend(manners.map(|operation| (operation, step, number, both)));
         }
     }
     seen
@@ -406,7 +407,7 @@ fn the_first_stream_comes_to_the_limits_in_pieces_and_everywhere_in_runs() {
 fn streams_come_to_the_limits_in_every_manner() {
     let ten = (1..=10).flat_map(|seed| met(&short(seed))).collect();
     for seen in [ten, met(&long(2))] {
-        for operation in [2, 3, 4, 10] {
+        for operation in [2, 3, 4, 10, 13] {
             let met = |step, number| (operation, step, number, false);
             has(&seen, LISTED.map(|step| met(step, 11)));
             has(&seen, COUNTED.map(|step| met(step, 10)));
@@ -420,7 +421,7 @@ fn single(seed: u64, requests: usize) -> [usize; 2] {
     let done = done(&stream(&Plan { seed, requests }));
     let single = done
         .iter()
-        .filter(|done| matches!(done.operation.number, 2 | 3));
+        .filter(|done| matches!(done.operation.number, 2 | 3 | 13));
     let numbers: Vec<u8> = single.map(|done| done.number).collect();
     [10, 11].map(|limit| numbers.iter().filter(|&&number| number == limit).count())
 }
@@ -515,7 +516,7 @@ fn left_full(stream: &[u8]) -> BTreeSet<(u8, usize)> {
     let mut seen = BTreeSet::new();
     for pair in done.windows(2) {
         let (before, after) = (&pair[0].before.shared_state, &pair[0].after.shared_state);
-        let single = matches!(pair[0].operation.number, 2 | 3);
+        let single = matches!(pair[0].operation.number, 2 | 3 | 13);
         if single && before.length == 256 && after.length == 255 && pair[1].operation.number == 6 {
             let mut places = 0..255;
             let gap = places.find(|&place| before.entries[place] != after.entries[place]);

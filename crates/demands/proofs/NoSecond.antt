@@ -134,6 +134,8 @@ use Rattle.returning.proofs.deposit_exc_lock_to_unmapped.Reads as deposit-exc-l
 use Rattle.steps.proofs.sought_by.Reads as sought-by-contract
 use Rattle.steps.proofs.decide.Reads as decide-contract
 use Rattle.lock.specs.Step.{stepOf}
+use Rattle.lock.proofs.refuse.Reads as refuse-page-contract
+use Rattle.lock.proofs.take_step.Reads as take-step-contract
 use Rattle.lock.proofs.step.Reads as step-contract
 use Rattle.lock.proofs.apply as apply-contract
 use Rattle.lock.proofs.lend.Reads as lend-contract
@@ -148,6 +150,8 @@ use Rattle.encoding.proofs.encode.Reads as encode-contract
 use Rattle.decoding.proofs.decode.Reads as decode-contract
 use Rattle.image.proofs.read.Reads as read-image-contract
 use Rattle.image.proofs.write.Reads as write-image-contract
+use Rattle.table.proofs.entry.Reads as entry-contract
+use Rattle.table.proofs.step_by_table.Reads as step-by-table-contract
 use Rattle.replay.proofs.run.Reads as run-contract
 use Rattle.replay.proofs.reply.Reads as reply-contract
 use Rattle.pieces.proofs.empty.Reads as empty-carry-contract
@@ -549,6 +553,12 @@ pub decide : AtMostOne decide-contract.Post
 decide = equation _
 
 -- ---- lock
+pub refuse-page : AtMostOne refuse-page-contract.Post
+refuse-page = equation _
+
+pub take-step : AtMostOne take-step-contract.Post
+take-step = equation _
+
 pub step : AtMostOne step-contract.Post
 step = equation _
 
@@ -603,6 +613,13 @@ read-image = equation _
 
 pub write-image : AtMostOneWith (λ o. o .1 .0 .now) write-image-contract.Post
 write-image = equations (λ o. o .1 .0 .now) _ _
+
+-- ---- table
+pub entry : AtMostOne entry-contract.Post
+entry = equation _
+
+pub step-by-table : AtMostOne step-by-table-contract.Post
+step-by-table = equation _
 
 -- ---- replay
 pub run : AtMostOneWith (λ o. o .1 .1 .0 .now) run-contract.Post

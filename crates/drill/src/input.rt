@@ -9,7 +9,7 @@ use libc::STDIN_FILENO;
 use wire::VALUE;
 
 // The number of the last operation that is listed.
-const LAST: u64 = 12;
+const LAST: u64 = 13;
 
 // What stands for an operation where the input ended.
 const ENDED: u64 = 0;

@@ -21,6 +21,7 @@ use ops::put;
 use ops::restore;
 use ops::run;
 use ops::step;
+use ops::step_by_table;
 use ops::take;
 use ops::write;
 
@@ -64,6 +65,7 @@ fn main() {
             }
             11 => say(pieces::finish(carry)),
             12 => carry = carry_from(bytes),
+            13 => page = step_by_table(page, bytes),
             _ => line(NO_MEANING),
         }
         io::write_all(STDOUT_FILENO, buffer);

@@ -96,6 +96,15 @@ pub(crate) fn lend(page: Page, payload: &[u8]) -> Page {
     told(lock::lend(page, request))
 }
 
+// Operation 13: one step by the table of flags.
+pub(crate) fn step_by_table(page: Page, payload: &[u8]) -> Page {
+    let request = asked(payload);
+    if request.step == NO_STEP {
+        return page;
+    }
+    told(table::step_by_table(page, request))
+}
+
 // Operation 4: a run.
 pub(crate) fn run(page: Page, payload: &[u8], buffer: &mut [u8]) -> Page {
     told(replay::run(page, payload, buffer))

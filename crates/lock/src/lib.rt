@@ -57,7 +57,7 @@ fn edited(readers: Readers, edit: Edit) -> Readers
 }
 
 // A refusal changes nothing.
-fn refuse(page: Page, why: Refusal) -> Outcome
+pub fn refuse(page: Page, why: Refusal) -> Outcome
     ensures { λ r. ⌜ r ≡ refusedBy page why ⌝ }
 {
     Outcome {
@@ -66,8 +66,8 @@ fn refuse(page: Page, why: Refusal) -> Outcome
     }
 }
 
-// The step of a request whose fields are in order.
-fn take_step(page: Page, request: Request) -> Outcome
+// The step of a request whose fields are in order, on a page that was judged.
+pub fn take_step(page: Page, request: Request) -> Outcome
     ensures { λ r. ⌜ r ≡ stepped page request Verdict.Passed ⌝ }
 {
     let readers = page.readers;

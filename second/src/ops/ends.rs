@@ -37,7 +37,7 @@ pub const ENDS: [End; 12] = [
     End::LongPayload,
     End::LongestPayload,
     End::Unlisted(0),
-    End::Unlisted(13),
+    End::Unlisted(14),
     End::Unlisted(21),
     End::Unlisted(255),
 ];
@@ -51,7 +51,7 @@ pub fn end_of(seed: u64) -> End {
 pub fn play(stream: &mut Stream, random: &mut Random, plan: &Plan) {
     stream.look();
     let request = step(19).at(1).bytes();
-    let whole = operation_bytes(2, 0, &request);
+    let whole = operation_bytes(random.pick(&[2, 13]), 0, &request);
     let bytes = match end_of(plan.seed) {
         End::Clean => return,
         End::CutHead => whole[..1 + random.below(HEAD - 1)].to_vec(),

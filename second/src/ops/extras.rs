@@ -23,7 +23,7 @@ fn unneeded(stream: &mut Stream, random: &mut Random, plan: &Plan) {
     }
     let request = step(19).at(2).bytes();
     let a = random.number();
-    for number in [1, 6, 2, 3, 6, 8, 6] {
+    for number in [1, 6, 2, 3, 13, 6, 8, 6] {
         stream.push(number, a, &request);
     }
     stream.push(6, 16, &[1]);

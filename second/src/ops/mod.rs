@@ -1,8 +1,9 @@
 //! The generator of operations for the drill.
 //!
 //! What is drawn, scripted or damaged is decided here, once: a stream goes
-//! through scripts, wrong requests, runs, walks, raw pages, images and pieces, and
-//! ends by its seed. The same seed and size always give the same bytes.
+//! through scripts, wrong requests, runs, walks, raw pages, images, pieces and the
+//! table of flags, and ends by its seed. The same seed and size always give the
+//! same bytes.
 
 pub mod back;
 pub mod clean;
@@ -23,6 +24,7 @@ pub mod runs;
 pub mod scripts;
 pub mod situations;
 pub mod stream;
+pub mod table;
 pub mod walks;
 
 use std::ops::Range;
@@ -71,7 +73,7 @@ impl Plan {
 /// The stream of this plan.
 pub fn stream(plan: &Plan) -> Vec<u8> {
     let mut random = Random::new(plan.seed);
-    let mut stream = Stream::start();
+    let mut stream = Stream::start(plan.seed);
     stream.look();
     scripts::play(&mut stream, &mut random, plan);
     scripts::play_situations(&mut stream, &mut random, plan);
@@ -87,6 +89,7 @@ pub fn stream(plan: &Plan) -> Vec<u8> {
     restarts::play(&mut stream, &mut random, plan, &walked);
     forms::play(&mut stream, &mut random, plan);
     pieces::play(&mut stream, &mut random, plan, &walked);
+    table::play(&mut stream, &mut random, plan);
     ends::play(&mut stream, &mut random, plan);
     stream.bytes()
 }

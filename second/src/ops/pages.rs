@@ -1,6 +1,7 @@
 //! Raw pages: sound ones, ones that break each rule, and payloads without
 //! meaning. After each page comes a look, its image, a step by value, a step with
-//! the page lent, and a run, so that every function meets every page.
+//! the page lent, a step by the table, and a run, so that every function meets
+//! every page.
 
 use std::iter;
 
@@ -340,6 +341,7 @@ pub fn ask_on(stream: &mut Stream, random: &mut Random, length: usize) {
     let hand = Hand::for_page(stream.page());
     stream.ask(&hand.draw(random, stream.page()));
     stream.ask(&hand.draw(random, stream.page()));
+    stream.ask_by_table(&hand.draw(random, stream.page()));
     let requests = hand.draw_run(random, stream.page(), length);
     let bytes = requests.as_flattened();
     stream.run(bytes, bytes.len() + random.below(3));

@@ -90,7 +90,8 @@ pub fn play(stream: &mut Stream, random: &mut Random, plan: &Plan, walked: &[Pag
 
 /// The page's way round: it is loaded at this bucket, edited by two editors, of whom
 /// the second is clean, and unmapped again. A reader is in the first one's way for a
-/// while, and some requests are refused. What is handed out was put in before.
+/// while, and some requests are refused, of which one is wrong. What is handed out was
+/// put in before.
 fn turn(bucket: u8, first: u64, second: u64) -> Vec<Draft> {
     vec![
         step(11),
@@ -109,6 +110,7 @@ fn turn(bucket: u8, first: u64, second: u64) -> Vec<Draft> {
         step(7).times(4),
         step(8),
         step(18).at(bucket),
+        step(29).clean(1).of(second),
         step(29).of(second),
         step(3),
         step(5),
@@ -231,7 +233,7 @@ fn play_ways(stream: &mut Stream, random: &mut Random, plan: &Plan) {
         stream.look_closely();
         stream.fresh(value);
         for request in &requests {
-            stream.push(2, 0, request);
+            stream.ask_by_value(request);
         }
         stream.look_closely();
         for _ in 0..2 {
@@ -374,12 +376,12 @@ fn play_between(stream: &mut Stream, random: &mut Random) {
     let request = step(4).at(3).of(LOADED).bytes();
     let (first, rest) = request.split_at(2);
     stream.piece_all(first);
-    for (number, byte) in (1..=9).zip(rest.chunks(1)) {
+    for (number, byte) in (1..=9).chain([13]).zip(rest.chunks(1)) {
         play_other(stream, random, number);
         stream.piece_all(byte);
     }
     stream.finish_pieces();
-    stream.piece_all(&rest[9..]);
+    stream.piece_all(&rest[10..]);
     stream.finish_pieces();
     stream.look_closely();
 }

@@ -482,7 +482,7 @@ fn play_ceilings(stream: &mut Stream, plan: &Plan) {
     for (filled, asked) in ceilings() {
         stream.play(&filled);
         for request in records(&asked) {
-            ask_twice(stream, &request);
+            ask_each(stream, &request);
         }
         stream.look();
     }
@@ -506,13 +506,14 @@ fn play_cases(stream: &mut Stream) {
     }
 }
 
-/// By value, and where that is refused, with the page lent too.
-fn ask_twice(stream: &mut Stream, request: &[u8; RECORD]) {
+/// By value, and where that is refused, with the page lent and by the table too.
+fn ask_each(stream: &mut Stream, request: &[u8; RECORD]) {
     let refused = answer_line(&mut stream.page().clone(), request).is_err();
     stream.lend_next(false);
     stream.ask(request);
     if refused {
         stream.ask(request);
+        stream.ask_by_table(request);
     }
 }
 

@@ -153,6 +153,11 @@ pub fn visiting() -> Vec<Draft> {
     then(pending(), &[step(6)])
 }
 
+/// The same, but it takes the page as clean.
+pub fn visiting_clean() -> Vec<Draft> {
+    then(pending(), &[step(6).clean(1)])
+}
+
 /// A claimant at bucket 2 that has visited all four, and a reader since. It takes
 /// the page as clean.
 pub fn visited() -> Vec<Draft> {
@@ -174,14 +179,19 @@ fn visited_as(clean: u8) -> Vec<Draft> {
     script.to_vec()
 }
 
-/// The same claimant with the page in its hands.
+/// The same claimant, but it does not take the page as clean.
+pub fn visited_dirty() -> Vec<Draft> {
+    visited_as(0)
+}
+
+/// The clean claimant with the page in its hands.
 pub fn editing() -> Vec<Draft> {
     then(visited(), &[step(8)])
 }
 
 /// The same, but the page was not taken as clean.
 pub fn editing_dirty() -> Vec<Draft> {
-    then(visited_as(0), &[step(8)])
+    then(visited_dirty(), &[step(8)])
 }
 
 /// An editor without a bucket, who did not take the page as clean.

@@ -2,6 +2,7 @@
 //! the page it will meet is always known.
 
 use super::image::{of, Image};
+use super::random::Random;
 use super::request::{records, Draft};
 use crate::drill::{Drill, Operation};
 use crate::image::read_image;
@@ -14,6 +15,8 @@ use crate::wire::RECORD;
 pub struct Stream {
     bytes: Vec<u8>,
     drill: Drill,
+    /// Decides which engine takes a step by value.
+    random: Random,
     /// Whether the next single request has its page lent.
     lent: bool,
     /// How many images were read that can be short or long.
@@ -21,11 +24,12 @@ pub struct Stream {
 }
 
 impl Stream {
-    /// Nothing yet.
-    pub fn start() -> Stream {
+    /// Nothing yet. The seed is the plan's; nothing else is drawn by the same numbers.
+    pub fn start(seed: u64) -> Stream {
         Stream {
             bytes: Vec::new(),
             drill: Drill::start(),
+            random: Random::new(!seed),
             lent: false,
             either: 0,
         }
@@ -70,9 +74,26 @@ impl Stream {
 
     /// One request, whole or not: by value and lent by turns.
     pub fn ask(&mut self, request: &[u8]) {
-        let number = if self.lent { 3 } else { 2 };
+        if self.lent {
+            self.push(3, 0, request);
+        } else {
+            self.ask_by_value(request);
+        }
         self.lent = !self.lent;
-        self.push(number, 0, request);
+    }
+
+    /// One request by value: half the time by the plain engine, else by the table.
+    pub fn ask_by_value(&mut self, request: &[u8]) {
+        if self.random.one_in(2) {
+            self.push(2, 0, request);
+        } else {
+            self.ask_by_table(request);
+        }
+    }
+
+    /// One request by value, by the engine with the table.
+    pub fn ask_by_table(&mut self, request: &[u8]) {
+        self.push(13, 0, request);
     }
 
     /// A run, with so much room for its answers.

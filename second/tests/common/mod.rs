@@ -29,7 +29,7 @@ pub fn operations(mut stream: &[u8]) -> (Vec<Operation>, &[u8]) {
 fn first_operation(stream: &[u8]) -> Option<(Operation, &[u8])> {
     let (head, rest) = stream.split_at_checked(16)?;
     let length = (value_at(head, 0) >> 32) as usize;
-    if !(1..=12).contains(&head[0]) || head[1..4] != [0; 3] || length > 65_536 {
+    if !(1..=13).contains(&head[0]) || head[1..4] != [0; 3] || length > 65_536 {
         return None;
     }
     let (payload, rest) = rest.split_at_checked(length)?;
@@ -50,7 +50,7 @@ pub struct Walk {
 }
 
 /// One request, single, in a run that was not refused as a whole or in a piece that
-/// was not, and its operation (2, 3, 4 or 10). Pages that are equal one after the
+/// was not, and its operation (2, 3, 4, 10 or 13). Pages that are equal one after the
 /// other are there once, because they are large.
 pub struct Asked {
     pub operation: u8,
@@ -74,7 +74,7 @@ pub fn walks(stream: &[u8]) -> Vec<Walk> {
                 walks.push(start(operation.number, drill.page()));
                 continue;
             }
-            2 | 3 => &written[..],
+            2 | 3 | 13 => &written[..],
             4 if written[0] == 0 => &written[16..],
             10 if written[0] == 0 => &written[32..],
             _ => continue,
@@ -100,7 +100,7 @@ fn start(origin: u8, page: &Page) -> Walk {
 /// The operation's requests, one by one.
 fn answer(page: &mut Page, carry: &Carry, operation: &Operation) -> Vec<Asked> {
     let asked = asked_bytes(carry, operation);
-    let single = matches!(operation.number, 2 | 3);
+    let single = matches!(operation.number, 2 | 3 | 13);
     let length = if single { asked.len() } else { 16 };
     let mut answered = Vec::new();
     let mut before = Rc::new(page.clone());
@@ -132,6 +132,14 @@ fn asked_bytes(carry: &Carry, operation: &Operation) -> Vec<u8> {
     let mut at_hand = [&carry.bytes[..carry.len], &operation.payload].concat();
     at_hand.truncate(at_hand.len() / 16 * 16);
     at_hand
+}
+
+/// What a request counts as: one by the table (13) is one by value (2), too.
+pub fn manners(operation: u8) -> Vec<u8> {
+    match operation {
+        13 => vec![2, 13],
+        other => vec![other],
+    }
 }
 
 /// Whom the request takes off the list, if it is accepted.

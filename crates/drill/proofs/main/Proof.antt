@@ -46,6 +46,7 @@ main-spec =
     (λ c κs. tt)
     (λ c κs. tt)
     (λ c κs. tt)
+    (λ c κs. tt)
     (λ c. search needs)
     (λ c.
     let joined = c .before .before .before in

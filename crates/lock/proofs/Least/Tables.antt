@@ -81,22 +81,22 @@ by-flag P a b c d e f g h i j k Flag.PendingExcLock = i
 by-flag P a b c d e f g h i j k Flag.ExcLockClean = j
 by-flag P a b c d e f g h i j k Flag.ExcLockDirty = k
 
-available-lets : (f : Flag) → isAvailable f ≡ flagLets 1 f
+pub available-lets : (f : Flag) → isAvailable f ≡ flagLets 1 f
 available-lets = by-flag (λ f. isAvailable f ≡ flagLets 1 f) refl refl refl refl refl refl refl refl refl refl refl
 
-claimable-lets : (f : Flag) → claimable f ≡ flagLets 3 f
+pub claimable-lets : (f : Flag) → claimable f ≡ flagLets 3 f
 claimable-lets = by-flag (λ f. claimable f ≡ flagLets 3 f) refl refl refl refl refl refl refl refl refl refl refl
 
-writeback-lets : (f : Flag) → writebackDone f ≡ flagLets 6 f
+pub writeback-lets : (f : Flag) → writebackDone f ≡ flagLets 6 f
 writeback-lets = by-flag (λ f. writebackDone f ≡ flagLets 6 f) refl refl refl refl refl refl refl refl refl refl refl
 
-unmapped-lets : (f : Flag) → isUnmapped f ≡ flagLets 11 f
+pub unmapped-lets : (f : Flag) → isUnmapped f ≡ flagLets 11 f
 unmapped-lets = by-flag (λ f. isUnmapped f ≡ flagLets 11 f) refl refl refl refl refl refl refl refl refl refl refl
 
-open-lets : (f : Flag) → openToReaders f ≡ flagLets 23 f
+pub open-lets : (f : Flag) → openToReaders f ≡ flagLets 23 f
 open-lets = by-flag (λ f. openToReaders f ≡ flagLets 23 f) refl refl refl refl refl refl refl refl refl refl refl
 
-loading-lets : (f : Flag) → notLoading f ≡ flagLets 24 f
+pub loading-lets : (f : Flag) → notLoading f ≡ flagLets 24 f
 loading-lets = by-flag (λ f. notLoading f ≡ flagLets 24 f) refl refl refl refl refl refl refl refl refl refl refl
 
 -- ---- each step's premises are the numbers 5 to 11 and 17 of the table

@@ -1,0 +1,4 @@
+pub mod Table
+pub mod Next
+pub mod Entry
+pub mod Engine
