@@ -8,11 +8,11 @@ use lib.Dec.{T, eqb, eqb→eq}
 use Rattle.laws.specs.Lists.{every, among}
 use Rattle.laws.proofs.Tests.{and-iff}
 use Rattle.laws.proofs.Pick.{eachBelow}
-use Rattle.kinds.specs.declared.{Bucket.Bucket, Count.Count, Flag.Flag, MaybeBucket.MaybeBucket, Reader.Reader, Visited.Visited}
+use Rattle.kinds.specs.declared.{Bucket.Bucket, Count.Count, Flag.Flag, MaybeBucket.MaybeBucket, Reader.Reader}
 use Rattle.kinds.specs.Limits.{buckets}
 use Rattle.kinds.specs.Numbers.{flagNumber, flags}
 use Rattle.readers.specs.Listed.{listed}
-use Rattle.page_record.specs.declared.{Head.Head, Page.Page}
+use Rattle.page_record.specs.declared.Page.{Page}
 use Rattle.page_record.specs.Pages.{pageOf}
 use Rattle.page_record.specs.References.{countAllRefs}
 use Rattle.rules.specs.Rules.{everyBucket}

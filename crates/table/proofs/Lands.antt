@@ -3,12 +3,12 @@
 -- `decides` reads it for every sound head and its list. Assumes nothing.
 use Prim.Native.Nat.{ℕ, _<_}
 use mathlib.Core.Path.{_≡_, refl, sym, subst, ap, _∙_}
-use mathlib.Core.Bool.{Bool, true, false, cond}
+use mathlib.Core.Bool.{Bool, true, false}
 use mathlib.Core.List.{List}
 use native.Mathlib.Omega.{arith}
 use lib.Dec.{T, eqb, eqb→eq}
 use Rattle.laws.proofs.Pick.{eachBelow, each-below}
-use Rattle.kinds.specs.declared.{Bucket.Bucket, Count.Count, Flag.Flag, Reader.Reader}
+use Rattle.kinds.specs.declared.{Bucket.Bucket, Count.Count, Reader.Reader}
 use Rattle.kinds.specs.Numbers.{flagNumber}
 use Rattle.readers.specs.declared.Found.{Found}
 use Rattle.page_record.specs.declared.Head.{Head}

@@ -1,11 +1,12 @@
 -- The table of flags is right (`rule`): one test shows that its rows are what RULES 7.5 has in words (`rows-say`; 93 of them are flags,
 -- `ninety-three`), and what the words say holds of every sound page (Lands.antt) and is met by one (Exhibits.antt). No other number
--- would do (`one-entry`). Every well-formed request has a column (`columned`); a number that is no step has no entry, and any clean
--- but 1 is dirty (`no-step`, `other-clean`). Where an entry says never, the answer is 5 or 6 (`never-number`). So the engine by the
--- table is the step by value (`looked-up`). Assumes nothing.
-use Prim.Native.Nat.{ℕ, _<_}
+-- would do (`one-entry`). Every well-formed request has a column (`columned`). What can be asked for besides: any step with any clean
+-- has an entry that is right, a number that is no step has none, and any clean but 1 is dirty (`step-entry`, `no-step`,
+-- `other-clean`). Where an entry says never, the answer is 5 or 6 (`never-number`). So the engine by the table is the step by value
+-- (`looked-up`). Assumes nothing.
+use Prim.Native.Nat.{ℕ, _-_, _<_}
 use mathlib.Core.Path.{_≡_, refl, sym, ap, _∙_}
-use mathlib.Core.Bool.{Bool, true, false, not, cond, _&&_}
+use mathlib.Core.Bool.{Bool, true, false, not, cond, _&&_, _||_}
 use native.Mathlib.Omega.{arith}
 use borrow.Author.Tests.{ne-eqb}
 use lib.Dec.{T, eqb, ltb, leb, eqb→eq, ltb→lt}
@@ -19,12 +20,12 @@ use Rattle.page_record.specs.declared.Page.{Page}
 use Rattle.page_record.specs.Pages.{headOf, pageOf}
 use Rattle.soundness.specs.Soundness.{soundOf}
 use Rattle.soundness.proofs.Tested.{facts}
-use Rattle.requests.specs.declared.{Refusal.Refusal, Request.Request, Verdict.Verdict}
+use Rattle.requests.specs.declared.{Request.Request, Verdict.Verdict}
 use Rattle.requests.specs.Answers.{answerNumber}
 use Rattle.requests.specs.Requests.{pastLast, isStep, takesClean, formal, judged}
 use Rattle.requests.proofs.Verdicts.{passed}
 use Rattle.requests.proofs.Reasons.{refusal-above}
-use Rattle.requests.proofs.Formed.{step-below, formed}
+use Rattle.requests.proofs.Formed.{step-most, step-below, formed}
 use Rattle.heads.specs.Setters.{withFlag}
 use Rattle.image.proofs.Back.{flag-back}
 use Rattle.lock.specs.declared.Outcome.{Outcome}
@@ -33,11 +34,11 @@ use Rattle.lock.specs.Applies.{flagLets}
 use Rattle.lock.proofs.Keeps.{unfit-stays}
 use Rattle.table.specs.Table.{columns, stepIn, cleanIn, columnOf, never, entryAt, entryOf}
 use Rattle.table.specs.Next.{Next, nextNumber, nextFlag}
-use Rattle.table.specs.Entry.{Asks, Takes, Entry, none, some}
+use Rattle.table.specs.Entry.{Asks, Entry, none, some}
 use Rattle.table.specs.Engine.{whyNever, marked, taken, lookedUp}
 use Rattle.table.proofs.Flags.{at-place, flag-below}
 use Rattle.table.proofs.Rows.{array, past-row}
-use Rattle.table.proofs.Lands.{Decides, decides}
+use Rattle.table.proofs.Lands.{decides}
 use Rattle.table.proofs.Exhibits.{page, request, exhibited}
 
 -- ---- the rows and the words
@@ -128,6 +129,15 @@ columned q e =
     (ltb→lt _ columns (w .0 .0), record { step = eqb→eq _ _ (w .0 .1); clean = eqb→eq _ _ (w .1) })
 
 -- ---- whatever is asked for
+-- a step's entry is right, whatever its clean
+pub step-entry : (f : Flag) (n clean : ℕ) → T (isStep n) → Entry f (columnOf n clean) (entryOf f n clean)
+step-entry f n clean t =
+    rule f (columnOf n clean) (rw (to-true (isStep n) t) (near (ltb n 6 || eqb n 6 && eqb clean 1)))
+  where
+    near : (b : Bool) → cond b (n - 1) n < columns
+    near true = omega (arith, step-most n t)
+    near false = omega (arith, step-most n t)
+
 -- a number that is no step has none
 pub no-step : (f : Flag) (n clean : ℕ) → isStep n ≡ false → entryOf f n clean ≡ never
 no-step f n clean e = simp e (past-row f columns (omega arith))

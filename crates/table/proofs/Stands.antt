@@ -1,10 +1,10 @@
 -- What a reader that is found tells of the page (rule 7): where none of its phase may stand, none is found (`seen-is`). Assumes nothing.
 use Prim.Native.Nat.{ℕ}
-use mathlib.Core.Path.{_≡_, refl, sym, _∙_}
+use mathlib.Core.Path.{_≡_, refl}
 use mathlib.Core.Bool.{Bool, true, false, cond, _&&_}
 use mathlib.Core.List.{List}
 use lib.Dec.{T}
-use Rattle.laws.proofs.Tests.{is-true, both}
+use Rattle.laws.proofs.Tests.{both}
 use Rattle.kinds.specs.declared.{Phase.Phase, Reader.Reader}
 use Rattle.readers.specs.declared.Found.{Found}
 use Rattle.readers.specs.Listed.{findIn}

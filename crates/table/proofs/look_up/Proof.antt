@@ -1,7 +1,7 @@
 -- `table::look_up` meets its contract: each return, by what its tests and its calls showed. Assumes nothing.
 use mathlib.Core.Path.{sym, _∙_}
 use borrow.Author.Tests.{ne-eqb}
-use Rattle.table.specs.Table.{never, entryOf}
+use Rattle.table.specs.Table.{never}
 use Rattle.table.specs.Engine.{lookedUp}
 use Rattle.table.proofs.look_up.Statement.{statement}
 use Rattle.table.proofs.look_up.Tie as tie

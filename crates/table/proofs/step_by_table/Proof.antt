@@ -1,10 +1,8 @@
 -- `table::step_by_table` meets its contract: each part is its test, or what its call ensures; what is looked up is the step by
 -- value. Assumes nothing.
-use mathlib.Core.Path.{_≡_, sym, _∙_}
+use mathlib.Core.Path.{sym, _∙_}
 use borrow.Author.Needs.{needs}
 use Rattle.laws.proofs.Tests.{is-true, fails-by, holds-by}
-use Rattle.requests.specs.declared.Verdict.{Verdict}
-use Rattle.requests.specs.Requests.{judged}
 use Rattle.lock.proofs.Keeps.{unsound-stays, unfit-stays}
 use Rattle.table.proofs.Rule.{looked-up}
 use Rattle.table.proofs.step_by_table.Statement.{statement}
