@@ -1,5 +1,7 @@
 // The census (RULES 7.2): how many of the listed readers stand at each bucket in each phase. A count fits its byte because a sound
 // record keeps every count within the ceiling.
+#![tactic(auto)]
+
 ghost use Rattle.std.specs.Prelude.{◌≤◌, ◌≡◌};
 ghost use Rattle.kinds.specs.Limits.{ceiling};
 ghost use Rattle.readers.specs.Listed.{live, count_at, count_in};

@@ -1,5 +1,7 @@
 // What the bytes of an image say, each at its place and nothing judged: bytes that are missing are zero, and a number that stands
 // for nothing counts as 0.
+#![tactic(auto)]
+
 ghost use Rattle.std.specs.Prelude.{◌≡◌, get_or, drop};
 ghost use Rattle.kinds.specs.Limits.{capacity};
 ghost use Rattle.encoding.specs.Images.{head_size};

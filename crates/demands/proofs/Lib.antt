@@ -1,5 +1,4 @@
 pub mod Told
-pub mod Stepped
 pub mod Asked
 pub mod Demand1
 pub mod Demand2

@@ -1,5 +1,7 @@
 // The program: requests from standard input, answers to standard output. What is written is decided in `replay`; here
 // is only input and output.
+#![tactic(auto)]
+
 ghost use Rattle.std.specs.Prelude.{◌*◌, ◌≤◌};
 ghost use Rattle.replay.specs.Reply.{longest};
 ghost use Rattle.desk.specs.Limits.{more};

@@ -20,7 +20,7 @@ const CUT: u64 = 255;
 const FOUR_BYTES: u64 = 4_294_967_296;
 
 // An operation whose payload is in, and how many bytes may be read after it: none where nothing is to come.
-#[derive(Drop)]
+#[derive(Clone, Copy)]
 pub struct Order {
     pub kind: u64,
     pub length: usize,

@@ -1,5 +1,7 @@
 // The drill: operations from standard input, each a head of sixteen bytes and its payload, and what came of them to standard
 // output. Whatever bytes come in, each function that is driven is called as a user of its library would call it.
+#![tactic(auto)]
+
 mod fields;
 mod input;
 mod lines;

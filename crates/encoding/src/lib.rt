@@ -1,4 +1,6 @@
 // The bytes of an image (RULES 5.5): a page as it stands, sound or not, into a lent buffer. Where each byte has its place is `places`.
+#![tactic(auto)]
+
 ghost use Rattle.std.specs.Prelude.{◌*◌, ◌<◌, ◌≡◌, length, drop};
 ghost use Rattle.kinds.specs.Limits.{line_size, capacity};
 ghost use Rattle.readers.specs.Listed.{live};

@@ -1,5 +1,7 @@
 // A page's head with some of its parts exchanged, and the decisions that leave it so: what the steps are made of. Every function
 // takes any head, and any number for a bucket.
+#![tactic(auto)]
+
 ghost use Rattle.std.specs.Prelude.{◌≡◌, []};
 ghost use Rattle.page_record.specs.Holders.{value_of};
 ghost use Rattle.page_record.specs.Pages.{number_at};
@@ -15,7 +17,7 @@ use page_record::Head;
 use requests::{Answer, Refusal};
 
 // What a step does to the list of readers.
-#[derive(Drop)]
+#[derive(Clone, Copy)]
 pub enum Edit {
     Keep,
     Push(Reader),
@@ -24,7 +26,7 @@ pub enum Edit {
 }
 
 // What a step decides of a head. An enum may not hold an array, so this is a struct.
-#[derive(Drop)]
+#[derive(Clone, Copy)]
 pub struct Decision {
     pub answer: Answer,
     pub head: Head,

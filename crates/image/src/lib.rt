@@ -1,6 +1,8 @@
 // The image of a record: the bytes in which it is kept across a restart (RULES 5.5 to 5.7). Reading asks no more of a byte than that
 // it is the one which writing gives: what the bytes say (`decoding`) is judged, written again (`encoding`), and compared. A short image
 // is judged under its own limits, and is the first part of what is written.
+#![tactic(auto)]
+
 ghost use Rattle.std.specs.Prelude.{◌≡◌};
 ghost use Rattle.soundness.specs.Soundness.{sound_under};
 ghost use Rattle.image.specs.Keeping.{limits_by, is_image, read_verdict, restored_from, kept_answer, kept_in};
@@ -17,7 +19,7 @@ use same::same;
 use soundness::is_sound;
 
 // A record that was read; a refusal gives a fresh one of 0. An enum may not hold an array, so this is a struct.
-#[derive(Drop)]
+#[derive(Clone, Copy)]
 pub struct Restored {
     pub answer: Answer,
     pub page: Page,

@@ -1,5 +1,7 @@
 // The kinds of a page record: its flag, its holders, its readers, and the limits. No kind stands for another: a bucket, a
 // visited number and a count are three types, and a holder carries only what its own phase needs.
+#![tactic(auto)]
+
 mod flags;
 mod numbers;
 mod phases;
@@ -36,18 +38,18 @@ pub const MOST_REQUESTS: usize = 2048;
 pub const LINE: usize = 16;
 
 // Which reference count a holder uses, 0 to 3.
-#[derive(Drop)]
+#[derive(Clone, Copy)]
 pub struct Bucket(pub u8);
 
 // How many buckets an editor has looked at, 0 to 4.
-#[derive(Drop)]
+#[derive(Clone, Copy)]
 pub struct Visited(pub u8);
 
 // How many hold a bucket, up to the ceiling.
-#[derive(Drop)]
+#[derive(Clone, Copy)]
 pub struct Count(pub u8);
 
-#[derive(Drop)]
+#[derive(Clone, Copy)]
 pub enum Flag {
     Unmapped,
     Loading,
@@ -63,34 +65,34 @@ pub enum Flag {
 }
 
 // The page's version where it is in, or nothing where it was handed out.
-#[derive(Drop)]
+#[derive(Clone, Copy)]
 pub enum Storage {
     Out,
     In(u64),
 }
 
-#[derive(Drop)]
+#[derive(Clone, Copy)]
 pub enum MaybeBucket {
     None,
     At(Bucket),
 }
 
 // How far a reader has come; one that has come through holds the version that it reads.
-#[derive(Drop)]
+#[derive(Clone, Copy)]
 pub enum Phase {
     Pending,
     Pending2,
     Obtained(u64),
 }
 
-#[derive(Drop)]
+#[derive(Clone, Copy)]
 pub struct Reader {
     pub phase: Phase,
     pub bucket: Bucket,
 }
 
 // The editor. One that has the page out keeps the version that it took.
-#[derive(Drop)]
+#[derive(Clone, Copy)]
 pub enum ExcState {
     None,
     Claim {
@@ -115,7 +117,7 @@ pub enum ExcState {
 }
 
 // The loader.
-#[derive(Drop)]
+#[derive(Clone, Copy)]
 pub enum LoadingState {
     None,
     Pending,
@@ -124,7 +126,7 @@ pub enum LoadingState {
 }
 
 // The archive.
-#[derive(Drop)]
+#[derive(Clone, Copy)]
 pub enum WritebackState {
     None,
     Held { value: u64 },

@@ -67,6 +67,7 @@ pub fn writeback_number(w: WritebackState) -> u8
 }
 
 // The flag of a number.
+#[tactic(auto, unfolding(crate::specs::Numbers::flag_from))]
 pub fn flag_from(number: u8) -> Flag
     ensures { result ≡ flag_from number }
 {
@@ -87,6 +88,7 @@ pub fn flag_from(number: u8) -> Flag
 }
 
 // Storage of a number, with this value where it is in.
+#[tactic(auto, unfolding(crate::specs::Numbers::storage_from))]
 pub fn storage_from(number: u8, value: u64) -> Storage
     ensures { result ≡ storage_from number value }
 {
@@ -98,6 +100,7 @@ pub fn storage_from(number: u8, value: u64) -> Storage
 }
 
 // The bucket of a number, or none.
+#[tactic(auto, unfolding(crate::specs::Numbers::bucket_from))]
 pub fn bucket_from(number: u8) -> MaybeBucket
     ensures { result ≡ bucket_from number }
 {
@@ -109,6 +112,7 @@ pub fn bucket_from(number: u8) -> MaybeBucket
 }
 
 // A reader's phase, with this value where it has one.
+#[tactic(auto, unfolding(crate::specs::Numbers::phase_from))]
 pub fn phase_from(number: u8, value: u64) -> Phase
     ensures { result ≡ phase_from number value }
 {
@@ -120,6 +124,7 @@ pub fn phase_from(number: u8, value: u64) -> Phase
 }
 
 // The exclusive holder of a number, with what its kind has of these.
+#[tactic(auto, unfolding(crate::specs::Numbers::exc_from))]
 pub fn exc_from(
     number: u8,
     bucket: MaybeBucket,
@@ -150,6 +155,7 @@ pub fn exc_from(
 }
 
 // The loader of a number, with this bucket where its kind has one.
+#[tactic(auto, unfolding(crate::specs::Numbers::loading_from))]
 pub fn loading_from(number: u8, bucket: MaybeBucket) -> LoadingState
     ensures { result ≡ loading_from number bucket }
 {
@@ -163,6 +169,7 @@ pub fn loading_from(number: u8, bucket: MaybeBucket) -> LoadingState
 }
 
 // The writeback of a number, with this value where there is one.
+#[tactic(auto, unfolding(crate::specs::Numbers::writeback_from))]
 pub fn writeback_from(number: u8, value: u64) -> WritebackState
     ensures { result ≡ writeback_from number value }
 {

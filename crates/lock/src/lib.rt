@@ -1,5 +1,7 @@
 // The lock: one request on one page, by value, and on a page that is lent to be changed. The page is judged first, then the
 // request's fields; then the step is decided on the page's head, and its edit is made in the list of readers.
+#![tactic(auto)]
+
 ghost use Rattle.std.specs.Prelude.{◌≡◌};
 ghost use Rattle.readers.specs.Listed.{live};
 ghost use Rattle.requests.specs.declared.Verdict.{Verdict};
@@ -14,7 +16,7 @@ use soundness::is_sound;
 use steps::{Sought, decide, sought_by};
 
 // What a step answers, and the page that it leaves.
-#[derive(Drop)]
+#[derive(Clone, Copy)]
 pub struct Outcome {
     pub answer: Answer,
     pub page: Page,

@@ -1,5 +1,7 @@
 // The page record: what stands in it, and a fresh one. Every function takes any record, also one that is broken, and its promise
 // is an equation. Whether a record is sound is judged in `soundness`, rule by rule in `rules`.
+#![tactic(auto)]
+
 ghost use Rattle.std.specs.Prelude.{◌≡◌};
 ghost use Rattle.page_record.specs.Pages.{head_of, page_of, fresh_page};
 ghost use Rattle.page_record.specs.References.{ref_at};
@@ -16,7 +18,7 @@ use kinds::{
 use readers::{Readers, empty};
 
 // The record, field for field as in the source.
-#[derive(Drop)]
+#[derive(Clone, Copy)]
 pub struct Page {
     pub storage: Storage,
     pub flag: Flag,
@@ -28,7 +30,7 @@ pub struct Page {
 }
 
 // The record without its readers: all that a step decides on.
-#[derive(Drop)]
+#[derive(Clone, Copy)]
 pub struct Head {
     pub storage: Storage,
     pub flag: Flag,

@@ -1,5 +1,7 @@
 // Requests in pieces (RULES 6.1): their bytes are cut anywhere, and what a piece leaves of a request that isn't whole is carried to
 // the next. A piece is a run of the whole requests at hand.
+#![tactic(auto)]
+
 ghost use Rattle.std.specs.Prelude.{◌+◌, ◌≤◌, ◌≡◌, [], length};
 ghost use Rattle.pieces.specs.Carries.{carry_size, carry_of, is_valid, finish_of};
 ghost use Rattle.pieces.specs.Pieces.{joined_in, piece_verdict, taken_of, buffer_after};
@@ -18,14 +20,14 @@ pub const CARRY: usize = LINE - 1;
 const AT_HAND: usize = CARRY + PIECE;
 
 // What is left of a request between two pieces: the first `len` bytes, and zeros.
-#[derive(Drop)]
+#[derive(Clone, Copy)]
 pub struct Carry {
     pub bytes: [u8; CARRY],
     pub len: usize,
 }
 
 // What a piece comes to: its answer, what it leaves, and how many answer lines it gave.
-#[derive(Drop)]
+#[derive(Clone, Copy)]
 pub struct Taken {
     pub answer: Answer,
     pub page: Page,

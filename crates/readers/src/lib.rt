@@ -1,6 +1,8 @@
 // The bounded list of readers, by value: an array as long as the capacity, of which the first `len` entries count. Every
 // function takes any value of its types, also a length above the capacity or a place past the length, and its promise is an
 // equation.
+#![tactic(auto)]
+
 ghost use Rattle.std.specs.Prelude.{◌≡◌};
 ghost use Rattle.readers.specs.Same.{same_phase, same_reader};
 ghost use Rattle.readers.specs.Listed.{live, blank_reader, blank_past, find_in, count_at, is_in, count_in, no_readers};
@@ -9,21 +11,21 @@ ghost use Rattle.readers.specs.Listed.{pushed, put_at, removed_at};
 use kinds::{Bucket, CAPACITY, Phase, Reader, phase_number};
 
 // The array, and how many of its entries count.
-#[derive(Drop)]
+#[derive(Clone, Copy)]
 pub struct Readers {
     pub items: [Reader; CAPACITY],
     pub len: usize,
 }
 
 // What a search answers: a place, or that there is none.
-#[derive(Drop)]
+#[derive(Clone, Copy)]
 pub enum Found {
     At(usize),
     Nowhere,
 }
 
 // The list with one more, or as it was where it is full. An enum may not hold an array, so this is a struct.
-#[derive(Drop)]
+#[derive(Clone, Copy)]
 pub struct Pushed {
     pub ok: bool,
     pub readers: Readers,
@@ -73,6 +75,7 @@ pub fn blank() -> Reader
 }
 
 // No readers.
+#[tactic(auto, unfolding(crate::specs::Listed::no_readers))]
 pub fn empty() -> Readers
     ensures { result ≡ no_readers }
 {
@@ -174,6 +177,7 @@ pub fn blank_past(rs: Readers) -> bool
 }
 
 // One more at the end, where there is room.
+#[tactic(auto, unfolding(crate::specs::Listed::pushed))]
 pub fn push(rs: Readers, r: Reader) -> Pushed
     ensures { result ≡ pushed rs r }
 {
@@ -195,6 +199,7 @@ pub fn push(rs: Readers, r: Reader) -> Pushed
 }
 
 // Another reader in the place of the one that stands there.
+#[tactic(auto, unfolding(crate::specs::Listed::put_at))]
 pub fn put(rs: Readers, at: usize, r: Reader) -> Readers
     ensures { result ≡ put_at rs at r }
 {
@@ -211,6 +216,7 @@ pub fn put(rs: Readers, at: usize, r: Reader) -> Readers
 }
 
 // The reader at a place taken out: the last one fills the gap.
+#[tactic(auto, unfolding(crate::specs::Listed::removed_at))]
 pub fn remove(rs: Readers, at: usize) -> Readers
     ensures { result ≡ removed_at rs at }
 {

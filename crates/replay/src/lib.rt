@@ -1,4 +1,6 @@
 // A run: sixteen-byte requests, answered one after the other into a lent buffer. And what the program writes for its input.
+#![tactic(auto)]
+
 ghost use Rattle.std.specs.Prelude.{◌≡◌};
 ghost use Rattle.replay.specs.Reply.{too_long, refusal_length, refusal_bytes, reply_length, reply_bytes};
 ghost use Rattle.replay.specs.Run.{run_verdict, ran_of, answers_of};

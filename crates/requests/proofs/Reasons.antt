@@ -32,8 +32,6 @@ reasons =
     ∷ Refusal.WrongSize
     ∷ Refusal.NotAnImage
     ∷ Refusal.OtherValue
-    ∷ Refusal.NoPage
-    ∷ Refusal.ShelfFull
     ∷ []
 
 abbrev pub reason_at : ℕ → Refusal
@@ -57,8 +55,6 @@ reason_told Refusal.NoRoom = refl
 reason_told Refusal.WrongSize = refl
 reason_told Refusal.NotAnImage = refl
 reason_told Refusal.OtherValue = refl
-reason_told Refusal.NoPage = refl
-reason_told Refusal.ShelfFull = refl
 
 -- a reason with number 0 would be the first, whose number is 1
 pub refusal_positive : (why : Refusal) → eqb (refusal_number why) 0 ≡ false

@@ -20,8 +20,6 @@ refusal_number Refusal.NoRoom = 14
 refusal_number Refusal.WrongSize = 15
 refusal_number Refusal.NotAnImage = 16
 refusal_number Refusal.OtherValue = 17
-refusal_number Refusal.NoPage = 18
-refusal_number Refusal.ShelfFull = 19
 
 -- 0 where all that is asked holds
 abbrev pub verdict_number : Verdict → ℕ

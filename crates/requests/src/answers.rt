@@ -25,8 +25,6 @@ pub fn refusal_number(why: Refusal) -> u8
         Refusal::WrongSize => 15,
         Refusal::NotAnImage => 16,
         Refusal::OtherValue => 17,
-        Refusal::NoPage => 18,
-        Refusal::ShelfFull => 19,
     }
 }
 

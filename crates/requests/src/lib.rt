@@ -1,6 +1,8 @@
 // Requests and answers, apart from any page: a request's raw fields and what is asked of them whatever the record is (`judge`:
 // numbers 2 to 4), the reasons for a refusal with their numbers, and what an answer carries. Each function takes any value of
 // its types.
+#![tactic(auto)]
+
 ghost use Rattle.std.specs.Prelude.{◌≡◌};
 ghost use Rattle.requests.specs.Requests.{judged};
 
@@ -12,7 +14,7 @@ use fields::{bucket_fits, fields_fit, is_step};
 use kinds::Bucket;
 
 // A request's raw fields, any of which may be wrong.
-#[derive(Drop)]
+#[derive(Clone, Copy)]
 pub struct Request {
     pub step: u8,
     pub bucket: Bucket,
@@ -20,9 +22,8 @@ pub struct Request {
     pub value: u64,
 }
 
-// Why something is refused: the numbers 1 to 19 of RULES 4.1, in their order. 12 to 14 are of bytes, runs and pieces, 15 and 16 of an image,
-// 18 and 19 of a shelf.
-#[derive(Drop)]
+// Why something is refused: the numbers 1 to 17 of RULES 4.1, in their order. 12 to 14 are of bytes, runs and pieces, 15 and 16 of an image.
+#[derive(Clone, Copy)]
 pub enum Refusal {
     Unsound,
     UnknownStep,
@@ -41,12 +42,10 @@ pub enum Refusal {
     WrongSize,
     NotAnImage,
     OtherValue,
-    NoPage,
-    ShelfFull,
 }
 
 // What a request is answered: that it is accepted, and which value is handed out for it if one is, or why it is refused.
-#[derive(Drop)]
+#[derive(Clone, Copy)]
 pub enum Answer {
     Accepted,
     Withdrew(u64),
@@ -54,7 +53,7 @@ pub enum Answer {
 }
 
 // What a list of premises comes to.
-#[derive(Drop)]
+#[derive(Clone, Copy)]
 pub enum Verdict {
     Passed,
     Failed(Refusal),

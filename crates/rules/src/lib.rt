@@ -1,6 +1,8 @@
 // The eight rules of a sound record (RULES 2), a function each: rules 1 to 7 by the source's names, and the limits, rule 8, whose
 // clause on counts can be asked with another ceiling too. Every function takes any record, also one that is broken, and its promise
 // is an equation.
+#![tactic(auto)]
+
 mod heads;
 mod limits;
 mod lists;

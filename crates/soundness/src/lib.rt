@@ -1,5 +1,7 @@
 // Whether a record is sound: it keeps the eight rules, and the lowest that it breaks has a number. What soundness says beyond its
 // rules one by one stands in proofs/: the twelve shapes of a sound head, and the facts that steps and demands use.
+#![tactic(auto)]
+
 ghost use Rattle.std.specs.Prelude.{◌≡◌};
 ghost use Rattle.laws.specs.Tables.{first_broken};
 ghost use Rattle.soundness.specs.Soundness.{lowest_broken, sound_of, sound_number};

@@ -1,6 +1,8 @@
 // The 30 steps on a page's head (RULES 3.2). The reader that a request looks for is sought in the list (`sought_by`), and the step
 // is decided (`decide`): its answer, the head that it leaves, and what it does to the list. No function here sees the list, and
 // each takes any value of its types.
+#![tactic(auto)]
+
 ghost use Rattle.std.specs.Prelude.{◌≡◌};
 ghost use Rattle.steps.specs.Decide.{decide_of, sought_of};
 
@@ -26,7 +28,7 @@ use returning::{
 };
 
 // The reader that a step looks for.
-#[derive(Drop)]
+#[derive(Clone, Copy)]
 pub enum Sought {
     Nobody,
     One(Reader),

@@ -1,4 +1,6 @@
 // The lock by a table of flags: which flag follows which (RULES 7.5), and a step that looks there first (RULES 7.6).
+#![tactic(auto)]
+
 ghost use Rattle.std.specs.Prelude.{◌≡◌};
 ghost use Rattle.lock.specs.Applies.{flag_lets};
 ghost use Rattle.lock.specs.Step.{step_of};

@@ -1,5 +1,7 @@
 // A request and an answer as a line of sixteen bytes each (RULES 5). Whether a request's fields fit its step is judged in
 // `requests`; here are the places of the fields, low byte first, and the length.
+#![tactic(auto)]
+
 ghost use Rattle.std.specs.Prelude.{◌≡◌};
 ghost use Rattle.wire.specs.Answers.{line_of};
 ghost use Rattle.wire.specs.Buffers.{put_answer, put_to};
@@ -19,7 +21,7 @@ const ZEROS: usize = 3;
 pub const VALUE: usize = 8;
 
 // What sixteen bytes say. A refusal gives no request.
-#[derive(Drop)]
+#[derive(Clone, Copy)]
 pub enum Reading {
     Request(Request),
     Refused(Refusal),
