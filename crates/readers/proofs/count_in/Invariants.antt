@@ -1,11 +1,12 @@
-use Rattle.std.proofs.Common.{◌-◌, ◌≡◌, ℕ, ◌+◌, ◌*◌, ◌<◌, ◌≤◌, length}
-use Rattle.readers.specs.Same.{same_phase, same_reader}
-use Rattle.readers.specs.Listed.{live, blank_reader, blank_past, find_in, count_at, is_in, count_in, no_readers, pushed, put_at, removed_at}
+-- What is counted so far and what is still to count are the whole count.
+use Rattle.std.proofs.Common.{◌≡◌, ◌-◌, length}
+use Rattle.laws.proofs.Turns.{Counting}
+use Rattle.kinds.specs.Limits.{capacity}
+use Rattle.readers.specs.Listed.{is_in}
 use Rattle.readers.proofs.count_in.Given as goal
 
 abbrev pub invariant-loop-i : goal.invariant-loop-i
-invariant-loop-i l = ?
+invariant-loop-i l = (length l.rs.items ≡ capacity) × Counting (is_in l.bucket.0 l.phase) l.rs.items l.len l.n l.i
 
--- proposed from the loop's first test
 abbrev pub decreases-loop-i : goal.decreases-loop-i
-decreases-loop-i l = 256 - l.i
+decreases-loop-i l = capacity - l.i

@@ -1,8 +1,17 @@
-use Rattle.std.proofs.Common.{rules, ◌≡◌, ℕ, ◌+◌, ◌-◌, ◌*◌, ◌<◌, ◌≤◌, length, ◌/◌, ◌%◌, Bool, true, false, nat_eq, nat_lt, List, [], ◌∷◌, ◌++◌, slice_index_or, slice_set, bit_and, bit_or, Fits, w8, w32, w64, Bor, MutBor}
-use Rattle.readers.specs.Same.{same_phase, same_reader}
-use Rattle.readers.specs.Listed.{live, blank_reader, blank_past, find_in, count_at, is_in, count_in, no_readers, pushed, put_at, removed_at}
+-- The last one over the reader that goes, and a blank where it stood, are `removed_items`.
+use Rattle.std.proofs.Common.{◌≡◌, ◌<◌, ◌≤◌, arith, sym, length, leb, ltb, le→leb, lt→ltb}
+use Rattle.laws.proofs.Tests.{both}
+use Rattle.kinds.specs.Limits.{capacity}
+use Rattle.readers.specs.Listed.{removed_at}
+use Rattle.readers.proofs.Places.{removed_items}
 use Rattle.readers.proofs.remove.Goals as goal
 
--- src/lib.rt:219:1
 pub returns : goal.returns
-returns c = ?
+unfolding removed_at
+returns c =
+    let a = c.args in
+    let full : length a.rs.items ≡ capacity = omega arith in
+    let fits : a.rs.len ≤ capacity = omega arith in
+    let inside : a.at < a.rs.len = omega arith in
+    let here = both (leb a.rs.len capacity) (ltb a.at a.rs.len) (le→leb _ _ fits) (lt→ltb _ _ inside) in
+    rw c.blank.ensures (sym (removed_items a.rs a.at full here))
