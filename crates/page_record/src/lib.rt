@@ -41,6 +41,7 @@ pub struct Head {
 }
 
 // A page that nobody holds, with this value in storage.
+#[tactic(auto, unfolding(crate::specs::Pages::fresh_page))]
 pub fn fresh(value: u64) -> Page
     ensures { result ≡ fresh_page value }
 {

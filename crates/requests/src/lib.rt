@@ -60,6 +60,7 @@ pub enum Verdict {
 }
 
 // Numbers 2, 3 and 4: what is asked of a request whatever the record is.
+#[tactic(auto, unfolding(crate::specs::Requests::judged))]
 pub fn judge(request: Request) -> Verdict
     ensures { result ≡ judged request }
 {
