@@ -33,6 +33,7 @@ fn census_row(readers: Readers, b: Bucket) -> [Count; 3]
 }
 
 // How many readers stand at each bucket in each phase; all zeros for a record that isn't sound.
+#[tactic(auto, unfolding(crate::specs::Census::census_of))]
 pub fn census(page: Page) -> [[Count; 3]; BUCKETS as usize]
     ensures { result ≡ census_of page }
 {

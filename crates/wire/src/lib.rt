@@ -69,6 +69,7 @@ pub fn read(bytes: &[u8]) -> Reading
 }
 
 // A line over the first sixteen bytes of the buffer, which stays as it is where it has fewer.
+#[tactic(auto, unfolding(crate::specs::Buffers::put_answer, crate::specs::Buffers::put_to))]
 pub fn put(buffer: &mut [u8], first: u8, second: u8, third: u8, value: u64) -> Answer
     ensures answer { result ≡ put_answer buffer.old }
     ensures bytes { buffer.new ≡ put_to (line_with first second third value) buffer.old }
