@@ -22,7 +22,7 @@ use Rattle.requests.specs.Applies.{applies2, applies3, applies4, applying_fields
 use Rattle.requests.proofs.Verdicts.{and_then, verdict_append, failing, verdict_number_lem}
 use Rattle.requests.proofs.Reasons.{refusal_above}
 use Rattle.requests.proofs.Formed.{step_below}
-use Rattle.requests.proofs.Least.{step_known, fields_fit, bucket_fits_lem, judged_number}
+use Rattle.requests.proofs.Least.{step_known, fields_fit_lem, bucket_fits_lem, judged_number}
 use Rattle.wire.specs.Bytes.{zeros_at, value_at, blank, part}
 use Rattle.wire.specs.Buffers.{room, answer_for}
 use Rattle.wire.specs.Requests.{fields_of, readable, reading_of, reading_number, read_of, writable, wrote_answer}
@@ -52,7 +52,7 @@ module _ (l : List ℕ) where
       go true e =
           let below = step_below q.step (is_true e) in
           let zeros = not_both (not (applies3 q)) (blank (part zeros_at value_at l)) in
-          rw (step_known q, fields_fit q below, bucket_fits_lem q below, zeros) (simp not-not)
+          rw (step_known q, fields_fit_lem q below, bucket_fits_lem q below, zeros) (simp not-not)
       go false e = rw (e, not-false (applies2 q) (sym (step_known q) ∙ e))
 
   -- of sixteen bytes, the lowest of 2, 3 and 4
