@@ -31,6 +31,7 @@ fn first_broken(tests: [bool; RULES]) -> u8
 }
 
 // The lowest broken rule, 1 to 8; 0 where none is broken.
+#[tactic(auto, unfolding(crate::specs::Soundness::lowest_broken))]
 pub fn broken_rule(page: Page) -> u8
     ensures { result ≡ lowest_broken page }
 {
@@ -55,6 +56,7 @@ pub fn broken_rule(page: Page) -> u8
 }
 
 // Whether no rule is broken.
+#[tactic(auto, unfolding(crate::specs::Soundness::sound_of, crate::specs::Soundness::lowest_broken))]
 pub fn is_sound(page: Page) -> bool
     ensures { result ≡ sound_of page }
 {

@@ -36,6 +36,7 @@ pub enum Sought {
 
 // The reader that a request looks for: 4 and 22 an Obtained one with the request's value, 20 and 23 a Pending one, 21 and 24
 // a Pending2 one.
+#[tactic(auto, unfolding(crate::specs::Decide::sought_of))]
 pub fn sought_by(request: Request) -> Sought
     ensures { result ≡ sought_of request }
 {
@@ -67,6 +68,7 @@ pub fn sought_by(request: Request) -> Sought
 
 // The step that a request names, on a head. `found` is where the reader that it looks for stands, and `full` whether the list
 // has no room.
+#[tactic(auto, unfolding(crate::specs::Decide::decide_of))]
 pub fn decide(head: Head, request: Request, found: Found, full: bool) -> Decision
     ensures { result ≡ decide_of head request found full }
 {
