@@ -77,6 +77,7 @@ fn put_list(readers: Readers, out: &mut [u8])
 }
 
 // Fills the bytes with the page's image, sound or not.
+#[tactic(auto, unfolding(crate::specs::Images::image_of))]
 fn put_image(page: Page, out: &mut [u8])
     requires { length out.old ≡ image_size capacity }
     ensures { out.new ≡ image_of capacity page }

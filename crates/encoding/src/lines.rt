@@ -7,6 +7,7 @@ use kinds::{LINE, exc_number, flag_number, loading_number, storage_number, write
 use page_record::{Head, exc_visited};
 
 // The flag, storage, the list's length and the holders.
+#[tactic(auto, unfolding(crate::specs::Images::kind_bytes))]
 pub fn kind_bytes(head: Head, len: usize) -> [u8; LINE]
     ensures { result ≡ kind_bytes head len }
 {
@@ -37,6 +38,7 @@ pub fn kind_bytes(head: Head, len: usize) -> [u8; LINE]
 }
 
 // The counts.
+#[tactic(auto, unfolding(crate::specs::Images::count_bytes))]
 pub fn count_bytes(head: Head) -> [u8; LINE]
     ensures { result ≡ count_bytes head }
 {

@@ -3,5 +3,4 @@ pub mod Reach
 pub mod Least
 pub mod Exact
 pub mod HandsOut
-pub mod Machine
 pub mod Order

@@ -23,6 +23,7 @@ pub struct Outcome {
 }
 
 // Where the reader that is sought stands.
+#[tactic(auto, unfolding(crate::specs::Step::look_for))]
 fn look_for(readers: Readers, sought: Sought) -> Found
     ensures { result ≡ look_for (live readers) sought }
 {
@@ -33,6 +34,7 @@ fn look_for(readers: Readers, sought: Sought) -> Found
 }
 
 // The readers after an edit.
+#[tactic(auto, unfolding(crate::specs::Step::edited_in))]
 fn edited(readers: Readers, edit: Edit) -> Readers
     ensures { result ≡ edited_in edit readers }
 {
@@ -73,6 +75,7 @@ pub fn take_step(page: Page, request: Request) -> Outcome
 }
 
 // One request on one page.
+#[tactic(auto, unfolding(crate::specs::Step::step_of))]
 pub fn step(page: Page, request: Request) -> Outcome
     ensures { result ≡ step_of page request }
 {

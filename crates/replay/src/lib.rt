@@ -16,6 +16,7 @@ use wire::Reading;
 pub const LONGEST: usize = LINE * MOST_REQUESTS;
 
 // One request: what its bytes ask for, or why they can't be read.
+#[tactic(auto, unfolding(crate::specs::Turns::turn_of))]
 fn turn(page: Page, bytes: &[u8]) -> Outcome
     ensures { result ≡ turn_of page bytes.now }
 {
@@ -29,6 +30,7 @@ fn turn(page: Page, bytes: &[u8]) -> Outcome
 }
 
 // Numbers 1, 12, 13 and 14: what is asked of a run of so many bytes, with so much space for its answers.
+#[tactic(auto, unfolding(crate::specs::Run::run_verdict))]
 fn judge_run(page: Page, bytes: usize, space: usize) -> Verdict
     ensures { result ≡ run_verdict page bytes space }
 {
@@ -51,6 +53,7 @@ fn judge_run(page: Page, bytes: usize, space: usize) -> Verdict
 
 // Each request is answered from the page that those before it left, whether they were granted or not. A run that is refused
 // as a whole touches neither the page nor the answers; otherwise the bytes past the last answer stay.
+#[tactic(auto, unfolding(crate::specs::Run::ran_of, crate::specs::Run::answers_of))]
 pub fn run(page: Page, requests: &[u8], answers: &mut [u8]) -> Outcome
     ensures end { result ≡ ran_of page requests.now answers.old }
     ensures lines { answers.new ≡ answers_of page requests.now answers.old }

@@ -3,16 +3,16 @@
 use Prim.Native.Nat.{ℕ, ◌+◌, ◌≤◌, ◌<◌, zero-le}
 use mathlib.Core.Path.{◌≡◌, refl}
 use mathlib.Core.Logic.{◌≢◌}
-use mathlib.Core.Bool.{Bool, true, false, not, ◌&&◌}
+use mathlib.Core.Bool.{Bool, true, false, not, ◌&&◌, ◌||◌}
 use mathlib.Core.List.{List, [], ◌∷◌, ◌++◌}
 use native.Mathlib.Omega.{arith}
 use borrow.Author.Tests.{eqb-false}
 use lib.Dec.{T, eqb, leb, ltb, eqb→eq, eqb_refl, leb→le, le→leb, nleb→lt, ltb→lt, lt→ltb}
 use lib.ListN.{length}
-use Rattle.laws.specs.Lists.{without}
+use Rattle.laws.specs.Lists.{among, without}
 use Rattle.laws.proofs.Tests.{to_false, both, halves, and_iff}
 use Rattle.laws.proofs.Lists.{every_mono, every_both, tally_none, tally_push}
-use Rattle.laws.proofs.Pick.{◌&◌}
+use Rattle.laws.proofs.Pick.{◌&◌, each_below}
 use Rattle.kinds.specs.declared.{Bucket.Bucket, Visited.Visited, Count.Count, MaybeBucket.MaybeBucket, Phase.Phase}
 use Rattle.kinds.specs.declared.{Reader.Reader}
 use Rattle.kinds.specs.Limits.{buckets, capacity, ceiling}
@@ -31,6 +31,8 @@ use Rattle.soundness.proofs.Shapes.{writeback_claimed, writeback_await, await, p
 use Rattle.soundness.proofs.Shapes.{by_shape}
 use Rattle.soundness.proofs.Known.{holding, hold_iff, valid_phase, found_valid, none_at, closed_passing}
 use Rattle.requests.specs.declared.Request.{Request}
+use Rattle.requests.specs.Requests.{past_last}
+use Rattle.requests.proofs.Verdicts.{fails}
 use Rattle.heads.specs.Setters.{raise, lower}
 use Rattle.heads.specs.Decisions.{place_of, reader}
 use Rattle.steps.specs.Decide.{decide_of, sought_of}
@@ -142,6 +144,10 @@ module _ (l : List Reader) (q : Request) (inside : q.bucket.0 < buckets) (found 
   -- 19 to 24
   any : {h : Head} → Sound h l → Cells l q found full h reader_steps
   any {h} s = reader_cells l q inside found full room h s
+
+  -- every other step fails one of its premises
+  abbrev Others : List ℕ → Head → Type 0
+  Others ns h = T (each_below (λ n. among ns n || fails (numbered l q found full h n).premises) past_last)
 
   -- ---- the table
   table : (z : Shape) (cs : List Count) → Sound (head_at z cs) l → T (valid z) → Row l q found full (head_at z cs)
@@ -298,7 +304,7 @@ module _ (l : List Reader) (q : Request) (inside : q.bucket.0 < buckets) (found 
         kept s (shaped (claimed m v) cs (halves (leb n.0 buckets) (valid_bucket m) ok).1) (reopens m n clean v cs)
         (counts_of s))
         & any s;
-    others = elim clean [ true ↦ tt | false ↦ tt ];
+    others = elim clean as (λ k. Others (7 ∷ 8 ∷ 28 ∷ reader_steps) (head_at (pending m n k v) cs)) [ true ↦ tt | false ↦ tt ];
   }
   -- 18 to editing with a bucket, 29 to available, 30 to unmapped
   table (editing MaybeBucket.None clean v) cs s ok = record {
@@ -310,7 +316,7 @@ module _ (l : List Reader) (q : Request) (inside : q.bucket.0 < buckets) (found 
         & (λ _ _. kept_quiet s (shaped (available q.value) cs tt) (λ b k t. t) (counts_of s))
         & (λ _ _. kept_quiet s (shaped (unmapped q.value) cs tt) (λ b k t. t) (counts_of s))
         & any s;
-    others = elim clean [ true ↦ tt | false ↦ tt ];
+    others = elim clean as (λ k. Others (18 ∷ 29 ∷ 30 ∷ reader_steps) (head_at (editing MaybeBucket.None k v) cs)) [ true ↦ tt | false ↦ tt ];
   }
   -- 9 to available, 10 to claimed, 29 to available, 30 to unmapped
   table (editing (MaybeBucket.At b) clean v) cs s ok = record {
@@ -328,7 +334,7 @@ module _ (l : List Reader) (q : Request) (inside : q.bucket.0 < buckets) (found 
         kept_quiet s (shaped (unmapped q.value) (lower b.0 cs) tt) (λ b k t. t)
         (left_counts (counts_of s) (MaybeBucket.At b) ok (λ x. omega arith)))
         & any s;
-    others = elim clean [ true ↦ tt | false ↦ tt ];
+    others = elim clean as (λ k. Others (9 ∷ 10 ∷ 29 ∷ 30 ∷ reader_steps) (head_at (editing (MaybeBucket.At b) k v) cs)) [ true ↦ tt | false ↦ tt ];
   }
 
 -- ---- the theorem
