@@ -27,6 +27,7 @@ fn byte_at(bytes: &[u8], at: usize) -> u8
 }
 
 // The value of eight bytes at a place.
+#[tactic(auto, unfolding(crate::specs::Decoding::u64_at))]
 fn u64_at(bytes: &[u8], at: usize) -> u64
     ensures { result ≡ u64_at at bytes.now }
 {
@@ -37,6 +38,7 @@ fn u64_at(bytes: &[u8], at: usize) -> u64
 }
 
 // The exclusive holder.
+#[tactic(auto, unfolding(crate::specs::Decoding::exc_from_bytes))]
 fn exc_at(image: &[u8]) -> ExcState
     ensures { result ≡ exc_from_bytes image.now }
 {
@@ -49,6 +51,7 @@ fn exc_at(image: &[u8]) -> ExcState
 }
 
 // All but the list.
+#[tactic(auto, unfolding(crate::specs::Decoding::head_from))]
 fn head_at(image: &[u8]) -> Head
     ensures { result ≡ head_from image.now }
 {
@@ -77,6 +80,7 @@ fn head_at(image: &[u8]) -> Head
 }
 
 // The reader of an entry that the bytes begin with.
+#[tactic(auto, unfolding(crate::specs::Decoding::reader_from))]
 fn reader_from(entry: &[u8]) -> Reader
     ensures { result ≡ reader_from entry.now }
 {
@@ -110,6 +114,7 @@ fn readers_at(image: &[u8], len: usize) -> Readers
 }
 
 // The page that the bytes say.
+#[tactic(auto, unfolding(crate::specs::Decoding::page_from))]
 pub fn decode(image: &[u8]) -> Page
     ensures { result ≡ page_from image.now }
 {

@@ -10,7 +10,7 @@ use lib.Seq.{drop-drop}
 use Rattle.laws.proofs.Turns.{past, turn}
 use Rattle.laws.proofs.Parts.{part_length, part_turn}
 use Rattle.kinds.specs.declared.Reader.{Reader}
-use Rattle.kinds.specs.Limits.{line_size}
+use Rattle.kinds.specs.Limits.{line_size, capacity}
 use Rattle.readers.specs.Listed.{blank_reader}
 use Rattle.wire.specs.Buffers.{put_to}
 use Rattle.wire.specs.Bytes.{line_with}
@@ -130,3 +130,9 @@ module _ (l : List Reader) (out ys : List ℕ) (n i at : ℕ) (more : i < n) (he
       ∙ ap (λ (z : List ℕ). take at out ++ z) lines
       ∙ part_turn at next out ys inside wide (omega arith) rest
       ∙ ap (λ (m : ℕ). take m new ++ rest) end
+
+-- ---- a list that is put entry by entry: all the entries are those that stand before the place of i, and those still to come
+pub record Filling (l : List Reader) (out : List ℕ) (i : ℕ) : Type 0 where
+  pub most : i ≤ capacity
+  pub room : length out ≡ line_size * capacity
+  pub whole : entries capacity l ≡ take (line_size * i) out ++ entries (capacity - i) (drop i l)

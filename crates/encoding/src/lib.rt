@@ -86,8 +86,8 @@ fn put_image(page: Page, out: &mut [u8])
     let head = head_of(page);
     let kinds = kind_bytes(head, readers.len);
     let counts = count_bytes(head);
-    bytes::copy(&kinds, &mut out[0..COUNTS]);
-    bytes::copy(&counts, &mut out[COUNTS..STORAGE_VALUE]);
+    out[0..COUNTS].copy_from_slice(&kinds);
+    out[COUNTS..STORAGE_VALUE].copy_from_slice(&counts);
     put_values(head, &mut out[STORAGE_VALUE..READERS]);
     put_list(readers, &mut out[READERS..IMAGE]);
 }

@@ -4,7 +4,7 @@
 --     }
 -- The walk of that function's MIR, over any record, request and answer; a crate cites it at its own types. Whoever calls
 -- `lend` passes and gets plain values, and needs no walk.
---     lendFn       the function's MIR. `refl` shows that it is the crate's `code.function`
+--     lend_fn      the function's MIR. `refl` shows that it is the crate's `code.function`
 --     Known, Back  what is known of what the callee returned, and what it gives back
 --     walk         the local is lent for a lifetime that is made for the call; the lifetime is ended, and the local comes back
 --                  at the value that the callee's contract says was its last
@@ -13,9 +13,9 @@ use Prim.Native.Nat.{ℕ}
 use mathlib.Core.Path.{refl, ap}
 use mathlib.Core.List.{[], ◌∷◌}
 use seplogic.Ra.Ura.{Ura}
-use seplogic.Ra.TreeShare.{full_share}
-use mir.Syntax.{Name, Sym, Ty, Fn, named, erased, mut, ty_ref, local, value_local, memory_slot, place, copy, rv_opd, addr_of}
-use mir.Syntax.{aggregate, assign, seq, call, return}
+use base.Fraction.{full_share}
+use mir.Syntax.{Callee, Sym, Ty, Fn, named, erased, mut, ty_ref, local, value_local, memory_slot, place, copy, rv_opd}
+use mir.Syntax.{addr_of, aggregate, assign, seq, call, return}
 use mir.Val.{Val, WT, has_ty, vptr, vstruct, vnil, vcons}
 use base.Logic.{SProp, ent, sep, emp, ex}
 use base.Fml.{Fml, GName, flft, fres, flent, fat}
@@ -43,10 +43,12 @@ use Rattle.loans.proofs.Lent.{out_ty}
 
 -- the function's MIR, over the callee's key, the outcome's name, and the types of the record (by value, and as it is written
 -- behind a reference), of the request and of the answer; its locals: the result, page, request, p, a, the reference, a copy of p
-abbrev pub lend_fn : Name → Sym → Ty → Ty → Ty → Ty → Fn
+abbrev pub lend_fn : Callee → Sym → Ty → Ty → Ty → Ty → Fn
 lend_fn f ν τP ωP τQ τR = record {
   lifetimes = 0;
   outlives = [];
+  ty_params = [];
+  givens = 0;
   params = 2;
   locals =
       local (out_ty ν τR τP) value_local
@@ -67,9 +69,9 @@ lend_fn f ν τP ωP τQ τR = record {
 
 module _ {M : Type 1} {𝓤 : Ura M} (𝓛 : Logic 𝓤) (P Q R : Kind 𝓛) (ν : Sym)
     (G : R.D → P.D → Type 0) where
-  -- the reference to the local l, under the name γ
   open 𝓛 use {H, A}
 
+  -- the reference to the local l, under the name γ
   abbrev pub ref : ℕ → GName → P.D → MutBor P.D
   ref l γ h = record { ref_ptr = (l, 0); ghost_name = γ; now = h }
 
@@ -96,7 +98,7 @@ module _ {M : Type 1} {𝓤 : Ura M} (𝓛 : Logic 𝓤) (P Q R : Kind 𝓛) (ν
   abbrev Lends : ℕ → ℕ → GName → P.D → Fml
   Lends α l γ h = (MutRef (named 0) (α ∷ []) Row).own_val (ref l γ h) (vptr l 0 ∷ [])
 
-  module _ (C : Calls 𝓤 H) (Λ : Loops 𝓤 H) (fm : FmC 𝓤 H 𝓛.laws C) (f : Name) (h : P.D) (n : Q.D)
+  module _ (C : Calls 𝓤 H) (Λ : Loops 𝓤 H) (fm : FmC 𝓤 H 𝓛.laws C) (f : Callee) (h : P.D) (n : Q.D)
       (pre : ℕ → ℕ → GName → SProp 𝓤) (post : ℕ → ℕ → GName → Val → SProp 𝓤)
       (met : (α l : ℕ) (γ : GName) → ent 𝓤 (pre α l γ) (C f (vptr l 0 ∷ Q.val n ∷ []) (post α l γ)))
       (goes : (α l : ℕ) (γ : GName) → ent 𝓤 (sep 𝓤 (A.lft (α ∷ []) full_share) (sem 𝓛 (Lends α l γ h))) (pre α l γ))

@@ -89,6 +89,7 @@ fn mark(out: Outcome, number: u8) -> Outcome
 
 // A request whose fields are in order, on a page that was judged: what nobody accepts is refused at once, before a reader is searched
 // for or a premise is looked at.
+#[tactic(auto, unfolding(crate::specs::Engine::looked_up))]
 fn look_up(page: Page, request: Request) -> Outcome
     ensures { result ≡ looked_up page request }
 {

@@ -1,0 +1,51 @@
+-- Its three returns are an input that is too long, a run, and a run that is refused.
+use Rattle.std.proofs.Common.{◌≡◌, [], ◌∷◌, refl, inl, inr}
+use types.Run.{OneOf}
+use denote.Enum.Declared.{tag_of}
+use Rattle.requests.specs.declared.{Refusal.Refusal, Answer.Answer}
+use Rattle.requests.specs.contracts.Answer as A
+use Rattle.replay.proofs.Replies.{reply_long, reply_ran, reply_refused}
+use Rattle.replay.proofs.reply.Goals as goal
+
+-- an answer that is no refusal
+granted : (a : Answer) → ((why : Refusal) → a ≡ Answer.Refused why → ⊥) → OneOf (0 ∷ 1 ∷ []) (tag_of A.the_type a)
+granted Answer.Accepted no = inl refl
+granted (Answer.Withdrew v) no = inr refl
+granted (Answer.Refused why) no = absurd (no why refl)
+
+pub returns-then-total-gt-LONGEST-clause-length : goal.returns-then-total-gt-LONGEST-clause-length
+returns-then-total-gt-LONGEST-clause-length c =
+    let a = c.args in
+    (reply_long a.kept.now a.out.now a.total c.too_long-why.result c.refuse.result c.refuse.new.out c.if-total-gt-LONGEST.true
+    c.too_long-why.ensures c.refuse.ensures.length c.refuse.ensures.bytes).0
+
+pub returns-then-total-gt-LONGEST-clause-bytes : goal.returns-then-total-gt-LONGEST-clause-bytes
+returns-then-total-gt-LONGEST-clause-bytes c =
+    let a = c.args in
+    (reply_long a.kept.now a.out.now a.total c.too_long-why.result c.refuse.result c.refuse.new.out c.if-total-gt-LONGEST.true
+    c.too_long-why.ensures c.refuse.ensures.length c.refuse.ensures.bytes).1
+
+pub returns-in_default : goal.returns-in_default
+returns-in_default c =
+    let a = c.args in
+    let ran = c.run-ran in
+    let both =
+    reply_ran a.kept.now a.out.now a.total c.fresh-page.result ran.result ran.new.answers c.if-total-gt-LONGEST.false
+    c.fresh-page.ensures ran.ensures.end ran.ensures.lines (granted _ c.in_default.not-Refused) in
+    record { length = both.0; bytes = both.1 }
+
+pub returns-clause-length : goal.returns-clause-length
+returns-clause-length c =
+    let a = c.args in
+    let ran = c.run-ran in
+    (reply_refused a.kept.now a.out.now a.total c.fresh-page.result ran.result ran.new.answers c.if-total-gt-LONGEST.false
+    c.fresh-page.ensures ran.ensures.end ran.ensures.lines
+    _ c.refuse-2.result c.refuse-2.new.out c.in-Refused.is c.refuse-2.ensures.length c.refuse-2.ensures.bytes).0
+
+pub returns-clause-bytes : goal.returns-clause-bytes
+returns-clause-bytes c =
+    let a = c.args in
+    let ran = c.run-ran in
+    (reply_refused a.kept.now a.out.now a.total c.fresh-page.result ran.result ran.new.answers c.if-total-gt-LONGEST.false
+    c.fresh-page.ensures ran.ensures.end ran.ensures.lines
+    _ c.refuse-2.result c.refuse-2.new.out c.in-Refused.is c.refuse-2.ensures.length c.refuse-2.ensures.bytes).1
