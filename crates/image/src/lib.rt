@@ -51,6 +51,7 @@ fn is_image(page: Page, image: &[u8]) -> bool
 }
 
 // Numbers 15 and 16: what is asked of bytes, and of the page that they say.
+#[tactic(auto, unfolding(crate::specs::Keeping::known_size, crate::specs::Keeping::read_verdict))]
 fn judge(page: Page, image: &[u8]) -> Verdict
     ensures { result ≡ read_verdict page image.now }
 {
@@ -68,6 +69,7 @@ fn judge(page: Page, image: &[u8]) -> Verdict
 }
 
 // The record of an image.
+#[tactic(auto, unfolding(crate::specs::Keeping::restored_from))]
 pub fn read(image: &[u8]) -> Restored
     ensures { result ≡ restored_from image.now }
 {

@@ -36,6 +36,7 @@ pub struct Taken {
 }
 
 // Nothing is carried.
+#[tactic(auto, unfolding(crate::specs::Carries::carry_of))]
 pub fn empty() -> Carry
     ensures { result ≡ carry_of [] }
 {
@@ -66,6 +67,7 @@ fn is_valid(carry: Carry) -> bool
 }
 
 // Numbers 1, 12, 13 and 14: what is asked of a piece of so many bytes, with so much space for its answers.
+#[tactic(auto, unfolding(crate::specs::Pieces::piece_verdict))]
 fn judge_piece(page: Page, carry: Carry, piece: usize, space: usize) -> Verdict
     ensures { result ≡ piece_verdict page carry piece space }
 {

@@ -9,9 +9,9 @@ use Rattle.replay.proofs.reply.Goals as goal
 
 -- an answer that is no refusal
 granted : (a : Answer) → ((why : Refusal) → a ≡ Answer.Refused why → ⊥) → OneOf (0 ∷ 1 ∷ []) (tag_of A.the_type a)
-granted Answer.Accepted no = inl refl
-granted (Answer.Withdrew v) no = inr refl
-granted (Answer.Refused why) no = absurd (no why refl)
+granted Answer.Accepted other = inl refl
+granted (Answer.Withdrew v) other = inr refl
+granted (Answer.Refused why) other = absurd (other why refl)
 
 pub returns-then-total-gt-LONGEST-clause-length : goal.returns-then-total-gt-LONGEST-clause-length
 returns-then-total-gt-LONGEST-clause-length c =
