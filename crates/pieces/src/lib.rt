@@ -50,7 +50,8 @@ fn carry_of(rest: &[u8]) -> Carry
     ensures { result ≡ carry_of rest.now }
 {
     let mut bytes = [0u8; CARRY];
-    let len = bytes::copy(rest, &mut bytes);
+    let len = rest.len();
+    bytes[..len].copy_from_slice(rest);
     Carry { bytes, len }
 }
 
@@ -89,14 +90,15 @@ fn judge_piece(page: Page, carry: Carry, piece: usize, space: usize) -> Verdict
 
 // What is carried, and then the piece, to the start of a buffer.
 fn join(carry: Carry, piece: &[u8], out: &mut [u8])
-    requires len_le_carry_size { carry.len ≤ carry_size }
-    requires piece_in_bounds { carry.len + length piece.now ≤ length out.old }
+    requires carried { carry.len ≤ carry_size }
+    requires room { carry.len + length piece.now ≤ length out.old }
     ensures { out.new ≡ joined_in carry piece.now out.old }
 {
     let len = carry.len;
     let bytes = carry.bytes;
-    bytes::copy(&bytes[..len], out);
-    bytes::copy(piece, &mut out[len..]);
+    out[..len].copy_from_slice(&bytes[..len]);
+    let end = len + piece.len();
+    out[len..end].copy_from_slice(piece);
 }
 
 // One piece. The whole requests at hand are answered, as a run of them, and the rest is carried. A piece that is refused touches
