@@ -1,0 +1,25 @@
+-- The page's image is made again, and compared, or as much of it as a short one has.
+use Rattle.std.proofs.Common.{◌≡◌, ℕ, List, arith, refl, ap, sym, ◌∙◌, length, take}
+use Rattle.kinds.specs.Limits.{capacity}
+use Rattle.encoding.specs.Images.{whole_size, short_size}
+use Rattle.encoding.proofs.Rooms.{length_image, imaged_all}
+use Rattle.image.specs.Keeping.{same_bytes}
+use Rattle.image.proofs.Lengths.{image_other, image_short}
+use Rattle.image.proofs.is_image.Goals as goal
+
+pub slice_bounds-same-end : goal.slice_bounds-same-end
+slice_bounds-same-end c =
+    let long : length c.encode.new.out ≡ whole_size = ap length (c.encode.ensures ∙ imaged_all _ _ refl) ∙ length_image capacity _ in
+    omega arith
+
+pub returns-then-image-eq-SHORT_IMAGE : goal.returns-then-image-eq-SHORT_IMAGE
+returns-then-image-eq-SHORT_IMAGE c =
+    c.same.ensures
+    ∙ ap (λ (z : List ℕ). same_bytes c.args.image.now (take short_size z)) (c.encode.ensures ∙ imaged_all c.args.page _ refl)
+    ∙ sym (image_short c.args.image.now c.args.page c.if-image-eq-SHORT_IMAGE.true)
+
+pub returns : goal.returns
+returns c =
+    c.same-2.ensures
+    ∙ ap (same_bytes c.args.image.now) (c.encode.ensures ∙ imaged_all c.args.page _ refl)
+    ∙ sym (image_other c.args.image.now c.args.page c.if-image-eq-SHORT_IMAGE.false)
