@@ -1,5 +1,6 @@
 -- The page's image is made again, and compared, or as much of it as a short one has.
 use Rattle.std.proofs.Common.{◌≡◌, ℕ, List, arith, refl, ap, sym, ◌∙◌, length, take}
+use Rattle.std.proofs.Math.Seq.{length-take-le}
 use Rattle.kinds.specs.Limits.{capacity}
 use Rattle.encoding.specs.Images.{whole_size, short_size}
 use Rattle.encoding.proofs.Rooms.{length_image, imaged_all}
@@ -10,7 +11,7 @@ use Rattle.image.proofs.is_image.Goals as goal
 pub slice_bounds-same-end : goal.slice_bounds-same-end
 slice_bounds-same-end c =
     let long : length c.encode.new.out ≡ whole_size = ap length (c.encode.ensures ∙ imaged_all _ _ refl) ∙ length_image capacity _ in
-    omega arith
+    sym (length-take-le short_size c.encode.new.out (omega arith))
 
 pub returns-then-image-eq-SHORT_IMAGE : goal.returns-then-image-eq-SHORT_IMAGE
 returns-then-image-eq-SHORT_IMAGE c =
