@@ -10,7 +10,7 @@ use prog.Routine.{Routine}
 use types.Logic.{Logic}
 use contract.Lifetimes.{Lfts}
 use contract.Monad.{Fun, fact}
-use denote.Ref.{Bor}
+use denote.MutBor.{MutBor}
 use denote.Triple.Both.{Both}
 use Rattle.kinds.proofs.awaited.Reads as awaited_contract
 use Rattle.kinds.proofs.claimable.Reads as claimable_contract
@@ -567,7 +567,7 @@ abbrev Applied : Unit {0} → Page × Request → Answer → Page → Type 0
 Applied κ i r o = (r ≡ (step_of i.0 i.1).answer) × (o ≡ (step_of i.0 i.1).page)
 
 pub apply_says : {M : Type 1} {𝓤 : Ura M} (𝓛 : Logic 𝓤) (κs : Lfts 1)
-    (at_mem : Memory → SProp 𝓤) (run : Routine → Fun 𝓤) (p : Bor Page) (q : Request) (lent : Both _ _) (asked : Both _ _) (r : Answer)
+    (at_mem : Memory → SProp 𝓤) (run : Routine → Fun 𝓤) (p : MutBor Page) (q : Request) (lent : Both _ _) (asked : Both _ _) (r : Answer)
     → apply_contract.ensures-1 𝓛 κs at_mem run p q lent asked r
     ≡ fact 𝓤 (Applied tt (lent.entry.now, q) r lent.exit.now)
 apply_says 𝓛 κs at_mem run p q lent asked r = refl
