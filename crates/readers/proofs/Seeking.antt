@@ -2,8 +2,8 @@
 -- `find_from` (`clause`), and goes one of three ways: the reader there is equal (`hit`), or it is another by its phase or by its
 -- bucket and is passed over (`other_phase`, `other_bucket`). Where nothing is left, no reader is equal (`past_length`,
 -- `past_array`). Assumes nothing.
-use Prim.Native.Nat.{ℕ, ◌+◌, ◌-◌, ◌≤◌, ◌<◌}
-use mathlib.Core.Path.{◌≡◌, refl, ◌∙◌, sym}
+use Prim.Native.Nat.{ℕ, ◌+◌, ◌≤◌, ◌<◌}
+use mathlib.Core.Path.{◌≡◌, ◌∙◌, sym}
 use mathlib.Core.Bool.{true, false, cond, and-false}
 use mathlib.Core.List.{List}
 use native.Mathlib.Omega.{arith}

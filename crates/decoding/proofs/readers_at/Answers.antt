@@ -1,5 +1,5 @@
 -- A turn stores the next entry; where all are stored, none is still to come.
-use Rattle.std.proofs.Common.{◌≡◌, ℕ, ◌+◌, ◌*◌, ◌-◌, ◌≤◌, List, ◌++◌, arith, refl, ap, sym, ◌∙◌, length, take, drop, append-nil}
+use Rattle.std.proofs.Common.{◌≡◌, ℕ, ◌+◌, ◌*◌, ◌-◌, List, ◌++◌, arith, refl, ap, sym, ◌∙◌, take, drop, append-nil}
 use Rattle.std.proofs.Math.ListN.{set, length-set}
 use Rattle.std.proofs.Math.Seq.{take_all}
 use Rattle.kinds.specs.declared.Reader.{Reader}

@@ -1,5 +1,5 @@
 -- The bytes are copied over the first of fifteen zeros.
-use Rattle.std.proofs.Common.{◌≡◌, ℕ, List, ◌++◌, refl, ap, sym, ◌∙◌, length, take, drop}
+use Rattle.std.proofs.Common.{ℕ, List, ◌++◌, refl, ap, sym, ◌∙◌, length, drop}
 use Rattle.std.proofs.Math.Seq.{take-length}
 use lib.ListN.{replicate}
 use Rattle.pieces.specs.Carries.{carry_size}

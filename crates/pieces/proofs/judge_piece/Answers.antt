@@ -1,5 +1,5 @@
 -- A carry that is valid is short, so the sum of the lengths is small.
-use Rattle.std.proofs.Common.{rules, arith, sym, ◌∙◌}
+use Rattle.std.proofs.Common.{arith, sym, ◌∙◌}
 use Rattle.pieces.proofs.Carries.{valid}
 use Rattle.pieces.proofs.judge_piece.Goals as goal
 

@@ -1,12 +1,9 @@
 -- A piece that is refused, and one that is a run of its whole requests.
-use Rattle.std.proofs.Common.{◌≡◌, ℕ, List, ◌+◌, ◌-◌, ◌≤◌, rules, arith, sym, ◌∙◌, length, take, drop}
-use Rattle.std.proofs.Math.ListN.{length-take}
+use Rattle.std.proofs.Common.{rules, arith, sym, ◌∙◌}
 use Rattle.std.proofs.Math.Seq.{length-take-le}
 use Rattle.requests.specs.declared.Verdict.{Verdict}
-use Rattle.pieces.specs.Carries.{carry_size}
-use Rattle.pieces.specs.Pieces.{piece_size, whole_in}
 use Rattle.pieces.proofs.Carries.{valid}
-use Rattle.pieces.proofs.Judged.{Fits, fits, taken_is, buffer_is}
+use Rattle.pieces.proofs.Judged.{fits, taken_is, buffer_is}
 use Rattle.pieces.proofs.Runs.{taken_by}
 use Rattle.pieces.proofs.take.Goals as goal
 
