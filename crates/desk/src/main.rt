@@ -2,12 +2,13 @@
 // is only input and output.
 #![tactic(auto)]
 
-ghost use Rattle.std.specs.Prelude.{◌*◌, ◌≤◌};
+ghost use Rattle.std.specs.Prelude.{◌*◌, ◌≤◌, length, take};
+ghost use Rattle.std.specs.Io.KnownBytes.{Consumes};
 ghost use Rattle.replay.specs.Reply.{longest};
 ghost use Rattle.desk.specs.Limits.{more};
 
-use libc::{STDERR_FILENO, STDIN_FILENO, STDOUT_FILENO};
 use replay::LONGEST;
+use std::io::Read;
 
 // How many bytes are read, with those that are kept.
 const MOST_BYTES: usize = 1_048_576;
@@ -15,22 +16,38 @@ const MOST_BYTES: usize = 1_048_576;
 // How many times as much again is read, only to be counted.
 const MORE: usize = MOST_BYTES / LONGEST - 1;
 
-// Reads on, and answers how many bytes came: fewer than a run takes only where the input ends.
-fn read_on() -> usize
+// Reads until the buffer is full, the input ends or a read fails; answers how many bytes came. They stand at its start.
+fn read_full<R: Read>(input: &mut R, buffer: &mut [u8]) -> usize
+    ensures within { result ≤ length buffer.old }
+    ensures bytes { Consumes (R.remaining input.old) (R.remaining input.new) (take result buffer.new) }
+{
+    let mut done: usize = 0;
+    while done < buffer.len() {
+        match input.read(&mut buffer[done..]) {
+            Ok(0) => return done,
+            Ok(n) => done += n,
+            Err(_) => return done,
+        }
+    }
+    done
+}
+
+// Reads on, and answers how many bytes came: fewer than a run takes only where the input ends or a read fails.
+fn read_on(input: &mut impl Read) -> usize
     ensures { result ≤ longest }
 {
     let mut passed = [0u8; LONGEST];
-    io::read_full(STDIN_FILENO, &mut passed)
+    read_full(input, &mut passed)
 }
 
 // How many bytes the input has past those that are kept, as far as they are counted.
-fn count_rest() -> usize
+fn count_rest(input: &mut impl Read) -> usize
     ensures { result ≤ more * longest }
 {
     let mut counted: usize = 0;
     let mut left = MORE;
     while 0 < left {
-        let got = read_on();
+        let got = read_on(input);
         counted += got;
         if got < LONGEST {
             return counted;
@@ -40,16 +57,19 @@ fn count_rest() -> usize
     counted
 }
 
-fn main() {
+fn main(rt: HostRuntime) {
+    let mut input = rt.stdin();
     let mut kept = [0u8; LONGEST];
-    let n = io::read_full(STDIN_FILENO, &mut kept);
+    let n = read_full(&mut input, &mut kept);
     let mut total = n;
     if n == LONGEST {
-        total += count_rest();
+        total += count_rest(&mut input);
     }
     let mut out = [0u8; LONGEST];
     let length = replay::reply(&kept[..n], total, &mut out);
-    if !io::write_all(STDOUT_FILENO, &out[..length]) {
-        io::write_all(STDERR_FILENO, b"desk: the answers could not be written\n");
+    if rt.stdout().write_all(&out[..length]).is_err() {
+        let _ = rt
+            .stderr()
+            .write_all(b"desk: the answers could not be written\n");
     }
 }

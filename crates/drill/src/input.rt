@@ -1,10 +1,11 @@
 // The input: the head and the payload of one operation, within what may be read in all.
-ghost use Rattle.std.specs.Prelude.{◌≡◌, ◌-◌, ◌≤◌, length};
+ghost use Rattle.std.specs.Prelude.{◌≡◌, ◌-◌, ◌≤◌, length, take};
+ghost use Rattle.std.specs.Io.KnownBytes.{Consumes};
 ghost use Rattle.kinds.specs.Limits.{line_size};
 
 use crate::fields::value_at;
 use kinds::LINE;
-use libc::STDIN_FILENO;
+use std::io::Read;
 use wire::VALUE;
 
 // The number of the last operation that is listed.
@@ -30,7 +31,8 @@ pub struct Order {
 
 // Nothing is to come.
 fn stop(kind: u64) -> Order
-    ensures { (result.length ≡ 0) × (result.left ≡ 0) }
+    ensures empty { result.length ≡ 0 }
+    ensures last { result.left ≡ 0 }
 {
     Order {
         kind,
@@ -40,23 +42,40 @@ fn stop(kind: u64) -> Order
     }
 }
 
-// Reads until the buffer is full, the input ends or `left` bytes have come; answers how many came.
-fn read_within(buffer: &mut [u8], left: usize) -> usize
-    ensures { (result ≤ length buffer.old) × (result ≤ left) }
+// Reads until the buffer is full, the input ends or a read fails; answers how many bytes came. They stand at its start.
+fn read_full<R: Read>(input: &mut R, buffer: &mut [u8]) -> usize
+    ensures within { result ≤ length buffer.old }
+    ensures bytes { Consumes (R.remaining input.old) (R.remaining input.new) (take result buffer.new) }
+{
+    let mut done: usize = 0;
+    while done < buffer.len() {
+        match input.read(&mut buffer[done..]) {
+            Ok(0) => return done,
+            Ok(n) => done += n,
+            Err(_) => return done,
+        }
+    }
+    done
+}
+
+// Reads until the buffer is full, the input ends, a read fails or `left` bytes have come; answers how many came.
+fn read_within(input: &mut impl Read, buffer: &mut [u8], left: usize) -> usize
+    ensures within { result ≤ length buffer.old }
+    ensures most { result ≤ left }
 {
     if left < buffer.len() {
-        return io::read_full(STDIN_FILENO, &mut buffer[..left]);
+        return read_full(input, &mut buffer[..left]);
     }
-    io::read_full(STDIN_FILENO, buffer)
+    read_full(input, buffer)
 }
 
 // The head of the next operation. Its number is read with the three bytes above it: where they aren't zero, it is too high to
 // be listed.
-fn head(left: usize) -> Order
+fn head(input: &mut impl Read, left: usize) -> Order
     ensures { result.left ≤ left - line_size }
 {
     let mut bytes = [0u8; LINE];
-    let got = read_within(&mut bytes, left);
+    let got = read_within(input, &mut bytes, left);
     if got == 0 {
         return stop(ENDED);
     }
@@ -77,16 +96,17 @@ fn head(left: usize) -> Order
 }
 
 // The next operation, of which the payload stands at the start of what is lent for it.
-pub(crate) fn next(left: usize, payload: &mut [u8]) -> Order
-    ensures { (result.length ≤ length payload.new) × (result.left ≤ left - line_size) }
+pub(crate) fn next(input: &mut impl Read, left: usize, payload: &mut [u8]) -> Order
+    ensures within { result.length ≤ length payload.new }
+    ensures falls { result.left ≤ left - line_size }
 {
-    let mut order = head(left);
+    let mut order = head(input, left);
     let length = order.length;
     let rest = order.left;
     if payload.len() < length {
         return stop(CUT);
     }
-    if read_within(&mut payload[..length], rest) < length {
+    if read_within(input, &mut payload[..length], rest) < length {
         return stop(CUT);
     }
     order.left = rest - length;

@@ -1,9 +1,9 @@
 // Operation 6: how the page is judged, what stands in it, and its readers as an image lists them. A value stands in a line as
 // one that was withdrawn does.
+use crate::lines::print_bytes;
 use kinds::{
     BUCKETS, CAPACITY, Count, Flag, LINE, Phase, Reader, Storage, flag_number, phase_number,
 };
-use libc::STDOUT_FILENO;
 use page_record::Page;
 use readers::Readers;
 use requests::Answer;
@@ -19,18 +19,24 @@ const ROW: usize = 3;
 const CENSUS_AT: usize = 4;
 
 // Whether the page is sound, the lowest broken rule, and the census.
-fn judged(sound: u8, broken: u8, census: [[Count; ROW]; BUCKETS as usize]) {
+fn judged(out: &impl Print, sound: u8, broken: u8, census: [[Count; ROW]; BUCKETS as usize]) {
     let mut record = [sound, broken, 0, 0, 0, 0, 0, 0, 0, 0, 0, 0, 0, 0, 0, 0];
     for k in 0..CENSUS {
         let row = census[k / ROW];
         let count = row[k % ROW];
         record[CENSUS_AT + k] = count.0;
     }
-    io::write_all(STDOUT_FILENO, &record);
+    print_bytes(out, &record);
 }
 
 // The flag, whether storage is in, the list's length, the counts, and storage's value.
-fn shown(flag: Flag, storage: Storage, len: usize, counts: [Count; BUCKETS as usize]) {
+fn shown(
+    out: &impl Print,
+    flag: Flag,
+    storage: Storage,
+    len: usize,
+    counts: [Count; BUCKETS as usize],
+) {
     let carried = match storage {
         Storage::Out => Answer::Accepted,
         Storage::In(value) => Answer::Withdrew(value),
@@ -47,8 +53,8 @@ fn shown(flag: Flag, storage: Storage, len: usize, counts: [Count; BUCKETS as us
         counts[2].0,
         counts[3].0,
     ];
-    io::write_all(STDOUT_FILENO, &head);
-    io::write_all(STDOUT_FILENO, &line[VALUE..]);
+    print_bytes(out, &head);
+    print_bytes(out, &line[VALUE..]);
 }
 
 // One reader.
@@ -64,23 +70,24 @@ fn put_reader(reader: Reader, out: &mut [u8]) {
 }
 
 // The listed readers, no more than there is room for.
-fn list(readers: Readers) {
+fn list(out: &impl Print, readers: Readers) {
     let mut listed = readers.len;
     if CAPACITY < listed {
         listed = CAPACITY;
     }
-    let mut out = [0u8; LINE * CAPACITY];
+    let mut lines = [0u8; LINE * CAPACITY];
     for i in 0..listed {
         let at = LINE * i;
         let reader = readers.items[i];
-        put_reader(reader, &mut out[at..]);
+        put_reader(reader, &mut lines[at..]);
     }
-    io::write_all(STDOUT_FILENO, &out[..LINE * listed]);
+    print_bytes(out, &lines[..LINE * listed]);
 }
 
 // The page, for who looks at it.
-pub(crate) fn look(page: Page) {
+pub(crate) fn look(out: &impl Print, page: Page) {
     judged(
+        out,
         soundness::sound(page),
         soundness::broken_rule(page),
         census::census(page),
@@ -89,6 +96,6 @@ pub(crate) fn look(page: Page) {
     let storage = page.storage;
     let readers = page.readers;
     let counts = page.ref_counts;
-    shown(flag, storage, readers.len, counts);
-    list(readers);
+    shown(out, flag, storage, readers.len, counts);
+    list(out, readers);
 }

@@ -10,24 +10,28 @@ mod ops;
 mod raw;
 
 use input::next;
-use libc::STDOUT_FILENO;
-use lines::{NO_MEANING, line, say};
+use lines::{NO_MEANING, line, print_bytes, say};
 use look::look;
 use ops::{carry_from, fill, keep, lend, put, restore, run, step, step_by_table, take, write};
 
 // The most bytes that are read in all.
 const LIMIT: usize = 16_777_216;
 
+// The most bytes that a payload has, and a buffer.
+const MOST: usize = 65_536;
+
 // One operation a turn, by its number; 0 is the end of the input, and what is not listed has no meaning. An operation writes
 // its line itself, and what else it has; its buffer is written last.
-fn main() {
+fn main(rt: HostRuntime) {
+    let mut input = rt.stdin();
+    let out = rt.stdout();
     let mut page = page_record::fresh(0);
     let mut carry = pieces::empty();
-    let mut payload = io::large_buffer();
-    let mut space = io::large_buffer();
+    let mut payload = [0u8; MOST];
+    let mut space = [0u8; MOST];
     let mut left = LIMIT;
     while 0 < left {
-        let order = next(left, &mut payload);
+        let order = next(&mut input, left, &mut payload);
         let kind = order.kind;
         let length = order.length;
         let room = fill(kind, order.a, &mut space);
@@ -37,27 +41,27 @@ fn main() {
         match kind {
             0 => (),
             1 => {
-                line(0);
+                line(&out, 0);
                 page = page_record::fresh(order.a);
             }
-            2 => page = step(page, bytes),
-            3 => page = lend(page, bytes),
-            4 => page = run(page, bytes, buffer),
-            5 => write(bytes, buffer),
-            6 => look(page),
-            7 => page = put(page, bytes),
-            8 => page = restore(bytes),
-            9 => keep(page, buffer),
+            2 => page = step(&out, page, bytes),
+            3 => page = lend(&out, page, bytes),
+            4 => page = run(&out, page, bytes, buffer),
+            5 => write(&out, bytes, buffer),
+            6 => look(&out, page),
+            7 => page = put(&out, page, bytes),
+            8 => page = restore(&out, bytes),
+            9 => keep(&out, page, buffer),
             10 => {
-                let taken = take(page, carry, bytes, buffer);
+                let taken = take(&out, page, carry, bytes, buffer);
                 page = taken.page;
                 carry = taken.carry;
             }
-            11 => say(pieces::finish(carry)),
-            12 => carry = carry_from(bytes),
-            13 => page = step_by_table(page, bytes),
-            _ => line(NO_MEANING),
+            11 => say(&out, pieces::finish(carry)),
+            12 => carry = carry_from(&out, bytes),
+            13 => page = step_by_table(&out, page, bytes),
+            _ => line(&out, NO_MEANING),
         }
-        io::write_all(STDOUT_FILENO, buffer);
+        print_bytes(&out, buffer);
     }
 }

@@ -2,10 +2,9 @@
 ghost use Rattle.std.specs.Prelude.{◌≤◌, length};
 
 use crate::fields::{byte_at, value_at};
-use crate::lines::{NO_MEANING, line, say};
+use crate::lines::{NO_MEANING, line, print_bytes, say};
 use crate::raw::is_known;
 use kinds::Bucket;
-use libc::STDOUT_FILENO;
 use lock::Outcome;
 use page_record::Page;
 use pieces::{CARRY, Carry, Taken};
@@ -49,11 +48,11 @@ pub(crate) fn fill(kind: u64, a: u64, space: &mut [u8]) -> usize
 }
 
 // What the payload asks for; where it can't be read that is said, and no step is asked for.
-fn asked(payload: &[u8]) -> Request {
+fn asked(out: &impl Print, payload: &[u8]) -> Request {
     match wire::read(payload) {
         Reading::Request(request) => request,
         Reading::Refused(why) => {
-            say(Answer::Refused(why));
+            say(out, Answer::Refused(why));
             Request {
                 step: NO_STEP,
                 bucket: Bucket(0),
@@ -65,46 +64,46 @@ fn asked(payload: &[u8]) -> Request {
 }
 
 // The line of what came out; the page that it leaves.
-fn told(out: Outcome) -> Page {
-    let answer = out.answer;
-    say(answer);
-    out.page
+fn told(out: &impl Print, outcome: Outcome) -> Page {
+    let answer = outcome.answer;
+    say(out, answer);
+    outcome.page
 }
 
 // Operation 2: one step by value.
-pub(crate) fn step(page: Page, payload: &[u8]) -> Page {
-    let request = asked(payload);
+pub(crate) fn step(out: &impl Print, page: Page, payload: &[u8]) -> Page {
+    let request = asked(out, payload);
     if request.step == NO_STEP {
         return page;
     }
-    told(lock::step(page, request))
+    told(out, lock::step(page, request))
 }
 
 // Operation 3: one step on a page that is lent.
-pub(crate) fn lend(page: Page, payload: &[u8]) -> Page {
-    let request = asked(payload);
+pub(crate) fn lend(out: &impl Print, page: Page, payload: &[u8]) -> Page {
+    let request = asked(out, payload);
     if request.step == NO_STEP {
         return page;
     }
-    told(lock::lend(page, request))
+    told(out, lock::lend(page, request))
 }
 
 // Operation 13: one step by the table of flags.
-pub(crate) fn step_by_table(page: Page, payload: &[u8]) -> Page {
-    let request = asked(payload);
+pub(crate) fn step_by_table(out: &impl Print, page: Page, payload: &[u8]) -> Page {
+    let request = asked(out, payload);
     if request.step == NO_STEP {
         return page;
     }
-    told(table::step_by_table(page, request))
+    told(out, table::step_by_table(page, request))
 }
 
 // Operation 4: a run.
-pub(crate) fn run(page: Page, payload: &[u8], buffer: &mut [u8]) -> Page {
-    told(replay::run(page, payload, buffer))
+pub(crate) fn run(out: &impl Print, page: Page, payload: &[u8], buffer: &mut [u8]) -> Page {
+    told(out, replay::run(page, payload, buffer))
 }
 
 // Operation 5: one request's bytes.
-pub(crate) fn write(payload: &[u8], buffer: &mut [u8]) {
+pub(crate) fn write(out: &impl Print, payload: &[u8], buffer: &mut [u8]) {
     let step = byte_at(payload, 0);
     let bucket = Bucket(byte_at(payload, 1));
     let clean = byte_at(payload, 2);
@@ -115,53 +114,59 @@ pub(crate) fn write(payload: &[u8], buffer: &mut [u8]) {
         clean,
         value,
     };
-    say(wire::write(request, buffer));
+    say(out, wire::write(request, buffer));
 }
 
 // Operation 7: a page read raw.
-pub(crate) fn put(page: Page, payload: &[u8]) -> Page {
+pub(crate) fn put(out: &impl Print, page: Page, payload: &[u8]) -> Page {
     if is_known(payload) {
-        line(0);
+        line(out, 0);
         return decoding::decode(payload);
     }
-    line(NO_MEANING);
+    line(out, NO_MEANING);
     page
 }
 
 // Operation 8: the page of an image.
-pub(crate) fn restore(payload: &[u8]) -> Page {
+pub(crate) fn restore(out: &impl Print, payload: &[u8]) -> Page {
     let restored = image::read(payload);
     let answer = restored.answer;
-    say(answer);
+    say(out, answer);
     restored.page
 }
 
 // Operation 9: the page's image.
-pub(crate) fn keep(page: Page, buffer: &mut [u8]) {
-    say(image::write(page, buffer));
+pub(crate) fn keep(out: &impl Print, page: Page, buffer: &mut [u8]) {
+    say(out, image::write(page, buffer));
 }
 
 // A carry in sixteen bytes: its length, and its fifteen.
-fn show(carry: Carry) {
+fn show(out: &impl Print, carry: Carry) {
     let len = [(carry.len % 256) as u8];
     let bytes = carry.bytes;
-    io::write_all(STDOUT_FILENO, &len);
-    io::write_all(STDOUT_FILENO, &bytes);
+    print_bytes(out, &len);
+    print_bytes(out, &bytes);
 }
 
 // Operation 10: a piece.
-pub(crate) fn take(page: Page, carry: Carry, payload: &[u8], buffer: &mut [u8]) -> Taken {
+pub(crate) fn take(
+    out: &impl Print,
+    page: Page,
+    carry: Carry,
+    payload: &[u8],
+    buffer: &mut [u8],
+) -> Taken {
     let taken = pieces::take(page, carry, payload, buffer);
     let answer = taken.answer;
     let left = taken.carry;
-    say(answer);
-    show(left);
+    say(out, answer);
+    show(out, left);
     taken
 }
 
 // Operation 12: a carry as it stands.
-pub(crate) fn carry_from(payload: &[u8]) -> Carry {
-    line(0);
+pub(crate) fn carry_from(out: &impl Print, payload: &[u8]) -> Carry {
+    line(out, 0);
     let mut bytes = [0u8; CARRY];
     for i in 0..CARRY {
         bytes[i] = byte_at(payload, i + 1);
