@@ -13,29 +13,29 @@
 --   transition!{ take_writeback() { .. } }           (step : q.step ≡ 1), its number (RULES 3.2)
 --   take_exc_lock_finish_writeback(clean: bool)      (named : q.clean ≡ cond clean 1 0)
 --   require P;                                       (require : P)
---   require bucket.is_Some(); .. get_Some_0()        (require : bucket ≡ some get-some)
---   require let Obtained{bucket, value} = x;         (require-let : x ≡ obtained q.bucket q.value)
+--   require bucket.is_Some(); .. get_Some_0()        (require : bucket ≡ some get_some)
+--   require let Obtained{bucket, value} = x;         (require_let : x ≡ obtained q.bucket q.value)
 --   update flag = x;                                 (update : post.flag ≡ x)
---   match pre.flag { x => { update flag = y; } .. }  (match-flag : Arm pre post x y ⊎ ..); an arm `require false` or
+--   match pre.flag { x => { update flag = y; } .. }  (match_flag : Arm pre post x y ⊎ ..); an arm `require false` or
 --                                                    `assert false` is one that isn't there
 --   remove exc_state -= Some(x);                     (remove : x before, and nobody after unless an `add` follows)
 --   add exc_state += Some(x);                        (add : x after, and nobody before unless a `remove` went first)
---   remove shared_state -= { x };                    (remove : pre.shared-state ≡ before ++ x ∷ after)
---                                                    (the-first : Absent x before), the first equal entry is taken
---                                                    (removed : post.shared-state ≡ before ++ lastFirst after), the last one
+--   remove shared_state -= { x };                    (remove : pre.shared_state ≡ before ++ x ∷ after)
+--                                                    (the_first : Absent x before), the first equal entry is taken
+--                                                    (removed : post.shared_state ≡ before ++ last_first after), the last one
 --                                                    stands in its place
---   add shared_state += { x };                       (add : post.shared-state ≡ pre.shared-state ++ x ∷ []), at the end;
---     after a `remove`: in its place                 (add : post.shared-state ≡ before ++ x ∷ after)
---   remove ref_counts -= [b => let n];               (remove-ref-counts : count_of pre b ≡ n)
---   add ref_counts += [b => n + 1];                  (add-ref-counts : count_of post b ≡ n + 1)
+--   add shared_state += { x };                       (add : post.shared_state ≡ pre.shared_state ++ x ∷ []), at the end;
+--     after a `remove`: in its place                 (add : post.shared_state ≡ before ++ x ∷ after)
+--   remove ref_counts -= [b => let n];               (remove_ref_counts : count_of pre b ≡ n)
+--   add ref_counts += [b => n + 1];                  (add_ref_counts : count_of post b ≡ n + 1)
 --                                                    (elsewhere : Elsewhere pre post b), the other counts stay
---   (n - 1) as nat                                   (as-nat : 1 ≤ n)
---   (no such line)                                   (one-less : OneLess pre post bucket), at a holder's bucket, if it has one
---   (no such line)                                   (unchanged-if-clean : Unchanged clean taken q.value), what a clean holder
+--   (n - 1) as nat                                   (as_nat : 1 ≤ n)
+--   (no such line)                                   (one_less : OneLess pre post bucket), at a holder's bucket, if it has one
+--   (no such line)                                   (unchanged_if_clean : Unchanged clean taken q.value), what a clean holder
 --                                                    puts in is what it took
 --   have ref_counts >= [b => n];                     (have : count_of pre b ≡ n)
---   let expected_rc = if P { 1 } else { 0 };         (let-expected-rc : (P × (expected-rc ≡ 1)) ⊎ ..)
---   birds_eye let v = pre.storage.get_Some_0();      (birds-eye-let : pre.storage ≡ Storage.In v)
+--   let expected_rc = if P { 1 } else { 0 };         (let_expected_rc : (P × (expected_rc ≡ 1)) ⊎ ..)
+--   birds_eye let v = pre.storage.get_Some_0();      (birds_eye_let : pre.storage ≡ Storage.In v)
 --   withdraw storage -= Some(v);                     (withdraw : v is in before, nothing after, and v is handed out)
 --   deposit storage += Some(v);                      (deposit : nothing is in before, and v after)
 --   what no clause names                             (only : Only fields pre post out), the other fields stay

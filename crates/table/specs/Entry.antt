@@ -25,7 +25,7 @@ pub record Takes (f : Flag) (c : ℕ) (p : Page) (q : Request) : Type 0 where
 pub data Entry (f : Flag) (c n : ℕ) : Type 0 where
   -- never: none does
   none : (is_never : n ≡ never)
-      (Takes-none : (p : Page) (q : Request) → Takes f c p q → ⊥)
+      (takes_none : (p : Page) (q : Request) → Takes f c p q → ⊥)
       → Entry f c n
   -- a flag: some page does, and each that does has that flag afterwards
   some : (g : Flag) (p : Page) (q : Request)

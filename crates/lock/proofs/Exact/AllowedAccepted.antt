@@ -159,7 +159,7 @@ module _ (h : Head) (l : List Reader) (q : Request) (h' : Head) (l' : List Reade
   takes (Moves.deposit_loading_to_done bucket step remove update deposit less only) room =
       let counts = own_less bucket (loading_valid bucket remove.0) less in
       step_is 17 step (rw remove.0 (took (search)))
-  takes (Moves.exc_inc_count none clean taken n step below remove require was add is elsewhere only) room =
+  takes (Moves.exc_inc_count none_bucket clean taken n step below remove require was add is elsewhere only) room =
       let under : count_of (state_with h l) q.bucket < ceiling = room.under (rw step tt) in
       let counts = one_more q.bucket below elsewhere n was is in
       step_is 18 step (rw (remove, require, lt-ltb _ ceiling under) (took (search)))

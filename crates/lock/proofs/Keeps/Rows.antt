@@ -233,7 +233,7 @@ module _ (l : List Reader) (q : Request) (inside : q.bucket.0 < buckets) (found 
         & any s;
     others = tt;
   }
-  -- 2 to available, 3 and 4 to writebackClaimed
+  -- 2 to available, 3 and 4 to writeback_claimed
   table (writeback v) cs s ok = record {
     numbers = 2 ∷ 3 ∷ 4 ∷ reader_steps;
     cells =
@@ -247,7 +247,7 @@ module _ (l : List Reader) (q : Request) (inside : q.bucket.0 < buckets) (found 
         & any s;
     others = tt;
   }
-  -- 2 to claimed, 5 to writebackAwait, 25 to writeback
+  -- 2 to claimed, 5 to writeback_await, 25 to writeback
   table (writeback_claimed MaybeBucket.None v) cs s ok = record {
     numbers = 2 ∷ 5 ∷ 25 ∷ reader_steps;
     cells =
@@ -257,7 +257,7 @@ module _ (l : List Reader) (q : Request) (inside : q.bucket.0 < buckets) (found 
         & any s;
     others = tt;
   }
-  -- 2 to claimed, 5 to writebackAwait, 25 and 26 to writeback
+  -- 2 to claimed, 5 to writeback_await, 25 and 26 to writeback
   table (writeback_claimed (MaybeBucket.At b) v) cs s ok = record {
     numbers = 2 ∷ 5 ∷ 25 ∷ 26 ∷ reader_steps;
     cells =
@@ -271,7 +271,7 @@ module _ (l : List Reader) (q : Request) (inside : q.bucket.0 < buckets) (found 
         & any s;
     others = tt;
   }
-  -- 2 to await, 27 to writebackClaimed
+  -- 2 to await, 27 to writeback_claimed
   table (writeback_await m v) cs s ok = record {
     numbers = 2 ∷ 27 ∷ reader_steps;
     cells =
