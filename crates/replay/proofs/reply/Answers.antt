@@ -13,17 +13,14 @@ granted Answer.Accepted other = inl refl
 granted (Answer.Withdrew v) other = inr refl
 granted (Answer.Refused why) other = absurd (other why refl)
 
-pub returns-then-total-gt-LONGEST-clause-length : goal.returns-then-total-gt-LONGEST-clause-length
-returns-then-total-gt-LONGEST-clause-length c =
+pub returns-then-total-gt-LONGEST : goal.returns-then-total-gt-LONGEST
+returns-then-total-gt-LONGEST c =
     let a = c.args in
-    (reply_long a.kept.now a.out.now a.total c.too_long-why.result c.refuse.result c.refuse.new.out c.if-total-gt-LONGEST.true
-    c.too_long-why.ensures c.refuse.ensures.length c.refuse.ensures.bytes).0
-
-pub returns-then-total-gt-LONGEST-clause-bytes : goal.returns-then-total-gt-LONGEST-clause-bytes
-returns-then-total-gt-LONGEST-clause-bytes c =
-    let a = c.args in
-    (reply_long a.kept.now a.out.now a.total c.too_long-why.result c.refuse.result c.refuse.new.out c.if-total-gt-LONGEST.true
-    c.too_long-why.ensures c.refuse.ensures.length c.refuse.ensures.bytes).1
+    let line = c.refuse.ensures in
+    let both =
+    reply_long a.kept.now a.out.now a.total c.too_long-why.result c.refuse.result c.refuse.new.out c.if-total-gt-LONGEST.true
+    c.too_long-why.ensures line.length line.bytes in
+    record { length = both.0; bytes = both.1 }
 
 pub returns-in_default : goal.returns-in_default
 returns-in_default c =
@@ -34,18 +31,13 @@ returns-in_default c =
     c.fresh-page.ensures ran.ensures.end ran.ensures.lines (granted _ c.in_default.not-Refused) in
     record { length = both.0; bytes = both.1 }
 
-pub returns-clause-length : goal.returns-clause-length
-returns-clause-length c =
+pub returns : goal.returns
+returns c =
     let a = c.args in
     let ran = c.run-ran in
-    (reply_refused a.kept.now a.out.now a.total c.fresh-page.result ran.result ran.new.answers c.if-total-gt-LONGEST.false
+    let line = c.refuse-2 in
+    let both =
+    reply_refused a.kept.now a.out.now a.total c.fresh-page.result ran.result ran.new.answers c.if-total-gt-LONGEST.false
     c.fresh-page.ensures ran.ensures.end ran.ensures.lines
-    _ c.refuse-2.result c.refuse-2.new.out c.in-Refused.is c.refuse-2.ensures.length c.refuse-2.ensures.bytes).0
-
-pub returns-clause-bytes : goal.returns-clause-bytes
-returns-clause-bytes c =
-    let a = c.args in
-    let ran = c.run-ran in
-    (reply_refused a.kept.now a.out.now a.total c.fresh-page.result ran.result ran.new.answers c.if-total-gt-LONGEST.false
-    c.fresh-page.ensures ran.ensures.end ran.ensures.lines
-    _ c.refuse-2.result c.refuse-2.new.out c.in-Refused.is c.refuse-2.ensures.length c.refuse-2.ensures.bytes).1
+    _ line.result line.new.out c.in-Refused.is line.ensures.length line.ensures.bytes in
+    record { length = both.0; bytes = both.1 }

@@ -1,37 +1,25 @@
 -- A turn's bytes follow those before it.
-use Rattle.std.proofs.Common.{◌≡◌, ℕ, ◌+◌, ◌-◌, ◌≤◌, List, ◌++◌, rules, arith, length, take, slice_range, sym, ap, ◌∙◌, subst, le_refl, drop_at, length-take-le}
-use Rattle.std.proofs.lemmas.Slice.{take-put_mid_below}
-use Rattle.std.specs.Io.KnownBytes.{Consumes}
+use Rattle.std.proofs.Common.{◌≡◌, ℕ, ◌+◌, ◌-◌, ◌≤◌, List, ◌++◌, rules, length, take, sym, ap, ◌∙◌, subst, length-take-le}
+use Rattle.std.proofs.lemmas.List.{take-append-le}
+use Rattle.std.proofs.Math.Seq.{take-append-add}
 use Rattle.std.proofs.KnownBytes.{Consumes-trans}
+use Rattle.std.specs.Io.KnownBytes.{Consumes}
 use borrow.Rule.Slice.PartMut.{put_mid, post_of}
-use lib.Seq.{take-add, take-append-le}
 use Rattle.drill.proofs.input.read_full.Goals as goal
 
--- what stands before a, and from there on before b
-before_both : (a b : ℕ) (old new : List ℕ) → a ≤ b → take a new ≡ take a old → take a old ++ slice_range new a b ≡ take b new
-before_both a b old new h front =
-    let same : a + (b - a) ≡ b = omega arith in
-    ap (λ l. l ++ slice_range new a b) (sym front) ∙ sym (take-add a (b - a) new) ∙ ap (λ n. take n new) same
-
--- the first n bytes of a part that is put back stand where the part does
-front_of_part : (a k n : ℕ) (xs ys : List ℕ) → a ≤ length xs → n ≤ length ys → slice_range (put_mid a k xs ys) a (a + n) ≡ take n ys
-front_of_part a k n xs ys within fits =
-    let same : (a + n) - a ≡ n = omega arith in
-    let after = post_of a k xs in
-    ap (take ((a + n) - a)) (drop_at (take a xs) (ys ++ after) a (length-take-le a xs within))
-    ∙ ap (λ m. take m (ys ++ after)) same
-    ∙ take-append-le n ys after fits
+-- what stands before a, and the first n of the part that is put there
+front : (a k n : ℕ) (xs ys : List ℕ) → a ≤ length xs → n ≤ length ys → take a xs ++ take n ys ≡ take (a + n) (put_mid a k xs ys)
+front a k n xs ys within fits =
+    let wide : length (take a xs) ≡ a = length-take-le a xs within in
+    ap (λ l. take a xs ++ l) (sym (take-append-le n ys (post_of a k xs) fits))
+    ∙ sym (take-append-add (take a xs) (ys ++ post_of a k xs) n)
+    ∙ ap (λ m. take (m + n) (put_mid a k xs ys)) wide
 
 pub loop-done-preserved : goal.loop-done-preserved
 loop-done-preserved g c =
     let from = c.loop-done.done in
     let old = c.loop-done.buffer in
-    let room = length old - from in
-    let part = c.read.new.buf in
-    let within = c.loop-done.invariant.0 in
-    let came = front_of_part from room c.in-Ok.n old part within c.in-Ok.ensures.bound.0 in
-    let joined =
-    before_both from (from + c.in-Ok.n) old (put_mid from room old part) (omega arith)
-    (take-put_mid_below _ _ _ _ _ (le_refl _) within) in
-    let both = Consumes-trans _ _ _ _ _ c.loop-done.invariant.1 c.in-Ok.ensures.bytes.0 in
-    (search rules, subst (Consumes _ _) (ap (λ l. take from old ++ l) (sym came) ∙ joined) both)
+    let so_far = c.loop-done.invariant in
+    let came = front from (length old - from) c.in-Ok.n old c.read.new.buf so_far.0 c.in-Ok.ensures.bound.0 in
+    let both = Consumes-trans _ _ _ _ _ so_far.1 c.in-Ok.ensures.bytes.0 in
+    (search rules, subst (Consumes _ _) came both)
