@@ -10,7 +10,7 @@ use native.Mathlib.Omega.{arith}
 use lib.Dec.{T, eqb}
 use lib.ListN.{get_or, replicate}
 use Rattle.laws.proofs.Lists.{one_le}
-use Rattle.laws.proofs.Tests.{to_true}
+use Rattle.laws.proofs.Tests.{is_true, to_true}
 use Rattle.laws.proofs.Pick.{◌&◌, pick}
 use Rattle.kinds.specs.declared.{Phase.Phase, Reader.Reader}
 use Rattle.kinds.specs.Limits.{buckets, ceiling}
@@ -52,6 +52,9 @@ module _ (p : Page) where
   listed_few s b h =
       let parts = (facts p s).parts in
       omega (arith, parts.counts b h, parts.few b)
+
+  pub few_where_sound : sound_of p ≡ true → (b : ℕ) → b < buckets → count_at b (live p.readers) ≤ ceiling
+  few_where_sound e = listed_few (is_true e)
 
   pub census_row_lem : T (sound_of p) → (b : ℕ) → b < buckets → get_or (census_of p) b [] ≡ census_row (live p.readers) b
   unfolding census_of

@@ -13,12 +13,12 @@ use readers::{Readers, count_in};
 use soundness::is_sound;
 
 // How many readers stand at a bucket in the phase of this number, where no more stand there in all than a count can say.
+#[tactic(auto, using(crate::proofs::Sums::phase_le))]
 fn counted(readers: Readers, b: Bucket, phase: u8) -> Count
     requires { count_at b.0 (live readers) ≤ ceiling }
     ensures { result ≡ record { 0 = count_in b.0 phase (live readers) } }
 {
-    let n = count_in(readers, b, phase);
-    Count(n as u8)
+    Count(count_in(readers, b, phase) as u8)
 }
 
 // The readers at a bucket: Pending, Pending2, Obtained.
@@ -26,27 +26,23 @@ fn census_row(readers: Readers, b: Bucket) -> [Count; 3]
     requires { count_at b.0 (live readers) ≤ ceiling }
     ensures { result ≡ census_row (live readers) b.0 }
 {
-    let pending = counted(readers, b, 1);
-    let pending2 = counted(readers, b, 2);
-    let obtained = counted(readers, b, 3);
-    [pending, pending2, obtained]
+    [1, 2, 3].map(|phase| counted(readers, b, phase))
 }
 
 // How many readers stand at each bucket in each phase; all zeros for a record that isn't sound.
-#[tactic(auto, unfolding(crate::specs::Census::census_of))]
+#[tactic(auto, using(crate::proofs::Sums::few_where_sound), unfolding(crate::specs::Census::census_of))]
 pub fn census(page: Page) -> [[Count; 3]; BUCKETS as usize]
     ensures { result ≡ census_of page }
 {
     if is_sound(page) {
-        let readers = page.readers;
-        let row0 = census_row(readers, Bucket(0));
-        let row1 = census_row(readers, Bucket(1));
-        let row2 = census_row(readers, Bucket(2));
-        let row3 = census_row(readers, Bucket(3));
-        [row0, row1, row2, row3]
+        // A closure for `map` would have to repeat what `census_row` requires.
+        [
+            census_row(page.readers, Bucket(0)),
+            census_row(page.readers, Bucket(1)),
+            census_row(page.readers, Bucket(2)),
+            census_row(page.readers, Bucket(3)),
+        ]
     } else {
-        let nobody = Count(0);
-        let none = [nobody; 3];
-        [none; BUCKETS as usize]
+        [[Count(0); 3]; BUCKETS as usize]
     }
 }

@@ -16,101 +16,74 @@ use kinds::{
     loading_from, phase_from, storage_from, writeback_from,
 };
 use page_record::{Head, Page, page_of};
-use readers::{Readers, blank};
-use wire::VALUE;
-
-// The byte at a place.
-fn byte_at(bytes: &[u8], at: usize) -> u8
-    ensures { result ≡ get_or bytes.now at 0 }
-{
-    if at < bytes.len() { bytes[at] } else { 0 }
-}
-
-// The value of eight bytes at a place.
-#[tactic(auto, unfolding(crate::specs::Decoding::u64_at))]
-fn u64_at(bytes: &[u8], at: usize) -> u64
-    ensures { result ≡ u64_at at bytes.now }
-{
-    if bytes.len() < at {
-        return 0;
-    }
-    wire::read_u64(&bytes[at..])
-}
+use readers::Readers;
+use std::array;
+use wire::{VALUE, byte_at, u64_at};
 
 // The exclusive holder.
-#[tactic(auto, unfolding(crate::specs::Decoding::exc_from_bytes))]
+#[tactic(auto, unfolding(crate::specs::Decoding::exc_from_bytes, crate::specs::Decoding::u64_at))]
 fn exc_at(image: &[u8]) -> ExcState
     ensures { result ≡ exc_from_bytes image.now }
 {
-    let kind = byte_at(image, EXC);
-    let bucket = bucket_from(byte_at(image, EXC_BUCKET));
-    let visited = Visited(byte_at(image, VISITED));
-    let clean = byte_at(image, CLEAN) == YES;
-    let value = u64_at(image, EXC_VALUE);
-    exc_from(kind, bucket, visited, clean, value)
+    exc_from(
+        byte_at(image, EXC),
+        bucket_from(byte_at(image, EXC_BUCKET)),
+        Visited(byte_at(image, VISITED)),
+        byte_at(image, CLEAN) == YES,
+        u64_at(image, EXC_VALUE),
+    )
 }
 
 // All but the list.
-#[tactic(auto, unfolding(crate::specs::Decoding::head_from))]
+#[tactic(auto, unfolding(crate::specs::Decoding::head_from, crate::specs::Decoding::u64_at))]
 fn head_at(image: &[u8]) -> Head
     ensures { result ≡ head_from image.now }
 {
-    let flag = flag_from(byte_at(image, FLAG));
-    let storage = storage_from(byte_at(image, STORED), u64_at(image, STORAGE_VALUE));
-    let exc_state = exc_at(image);
-    let loading_state = loading_from(
-        byte_at(image, LOADER),
-        bucket_from(byte_at(image, LOADER_BUCKET)),
-    );
-    let writeback_state = writeback_from(byte_at(image, WRITEBACK), u64_at(image, WRITEBACK_VALUE));
-    let ref_counts = [
-        Count(byte_at(image, COUNTS)),
-        Count(byte_at(image, COUNTS + 1)),
-        Count(byte_at(image, COUNTS + 2)),
-        Count(byte_at(image, COUNTS + 3)),
-    ];
     Head {
-        storage,
-        flag,
-        ref_counts,
-        exc_state,
-        loading_state,
-        writeback_state,
+        storage: storage_from(byte_at(image, STORED), u64_at(image, STORAGE_VALUE)),
+        flag: flag_from(byte_at(image, FLAG)),
+        // Each by hand: of a `map` over the four places it stays open that its closure may be called.
+        ref_counts: [
+            Count(byte_at(image, COUNTS)),
+            Count(byte_at(image, COUNTS + 1)),
+            Count(byte_at(image, COUNTS + 2)),
+            Count(byte_at(image, COUNTS + 3)),
+        ],
+        exc_state: exc_at(image),
+        loading_state: loading_from(
+            byte_at(image, LOADER),
+            bucket_from(byte_at(image, LOADER_BUCKET)),
+        ),
+        writeback_state: writeback_from(byte_at(image, WRITEBACK), u64_at(image, WRITEBACK_VALUE)),
     }
 }
 
 // The reader of an entry that the bytes begin with.
-#[tactic(auto, unfolding(crate::specs::Decoding::reader_from))]
+#[tactic(auto, unfolding(crate::specs::Decoding::reader_from, crate::specs::Decoding::u64_at))]
 fn reader_from(entry: &[u8]) -> Reader
     ensures { result ≡ reader_from entry.now }
 {
-    let phase = phase_from(byte_at(entry, PHASE), u64_at(entry, VALUE));
-    let bucket = Bucket(byte_at(entry, BUCKET));
-    Reader { phase, bucket }
+    Reader {
+        phase: phase_from(byte_at(entry, PHASE), u64_at(entry, VALUE)),
+        bucket: Bucket(byte_at(entry, BUCKET)),
+    }
 }
 
 // That of the entry at a place; where the bytes end before it, nobody.
 fn reader_at(image: &[u8], at: usize) -> Reader
     ensures { result ≡ reader_from (drop at image.now) }
 {
-    if image.len() < at {
-        return blank();
-    }
-    reader_from(&image[at..])
+    reader_from(image.get(at..).unwrap_or(&[]))
 }
 
 // The list, of this length: every entry as it stands, those past the length too.
 fn readers_at(image: &[u8], len: usize) -> Readers
     ensures { result ≡ record { items = readers_from capacity (drop head_size image.now); len = len } }
 {
-    let nobody = blank();
-    let mut items = [nobody; CAPACITY];
-    let mut i: usize = 0;
-    while i < CAPACITY {
-        items[i] = reader_at(image, READERS + LINE * i);
-        i += 1;
+    Readers {
+        items: array::from_fn(|i| reader_at(image, READERS + LINE * i)),
+        len,
     }
-    Readers { items, len }
 }
 
 // The page that the bytes say.

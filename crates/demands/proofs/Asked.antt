@@ -2,6 +2,7 @@
 -- refused and leaves the page, or it is a request that is stepped. From page to page the page stays sound, the history tells of it, and just
 -- the accepted 8, 11 and 12 hand a value out (`follows`); and what comes in two parts is as if it came in one (`left_on`, `happened_on`).
 -- Requests and the lines of a run are such ways (`request_acts`, `line_acts`). Assumes nothing.
+use Rattle.std.specs.Prelude.{Result, Ok, Err}
 use mathlib.Core.Path.{◌≡◌, refl, ap}
 use mathlib.Core.Logic.{◌⊎◌, inl, inr}
 use mathlib.Core.List.{List, [], ◌∷◌, ◌++◌}
@@ -15,7 +16,6 @@ use Rattle.lock.specs.declared.Outcome.{Outcome}
 use Rattle.lock.specs.Step.{step_of}
 use Rattle.lock.proofs.Keeps.{step_keeps}
 use Rattle.lock.proofs.HandsOut.{hands_out_lem}
-use Rattle.wire.specs.declared.Reading.{Reading}
 use Rattle.wire.specs.Requests.{read_of}
 use Rattle.wire.proofs.Trips.{accepted}
 use Rattle.replay.proofs.Pages.{turn_read, turn_refused}
@@ -38,12 +38,12 @@ request_acts p q = inr (q, refl, refl)
 pub line_acts : Acts by_line
 line_acts p bytes = go (read_of bytes) refl
   where
-    go : (r : Reading) → read_of bytes ≡ r → Acted p (by_line.page p bytes) (by_line.event p bytes)
-    go (Reading.Request q) e =
+    go : (r : Result Request Refusal) → read_of bytes ≡ r → Acted p (by_line.page p bytes) (by_line.event p bytes)
+    go (Ok q) e =
         let turn = turn_read p bytes q e in
         let fields = (accepted bytes q e).fields in
         inr (q, (λ i. record { request = fields i; answer = (turn i).answer }), ap (λ (o : Outcome). o.page) turn)
-    go (Reading.Refused why) e =
+    go (Err why) e =
         let turn = turn_refused p bytes why e in
         inl (why, ap (λ (o : Outcome). o.answer) turn, ap (λ (o : Outcome). o.page) turn)
 

@@ -1,5 +1,6 @@
 -- What a history starts from, in fields, is what is taken to have happened before, in requests: at the start by cases of the holders
 -- (that the page is out just if one of them has it is rule 1), and then request by request, the same on both sides. Assumes nothing.
+use Rattle.std.specs.Prelude.{Option, Some, None}
 use Prim.Native.Nat.{ℕ}
 use mathlib.Core.Path.{◌≡◌, refl, sym, ap, ◌∙◌}
 use mathlib.Core.Bool.{Bool, true, false, not, cond, ◌||◌, not-not}
@@ -7,7 +8,8 @@ use mathlib.Core.List.{List, [], ◌∷◌, ◌++◌}
 use native.Mathlib.Omega.{arith}
 use lib.Dec.{T}
 use Rattle.laws.proofs.Tests.{alike}
-use Rattle.kinds.specs.declared.{MaybeBucket.MaybeBucket, ExcState.ExcState, LoadingState.LoadingState}
+use Rattle.kinds.specs.declared.{ExcState.ExcState, LoadingState.LoadingState}
+use Rattle.kinds.specs.declared.Bucket.{Bucket}
 use Rattle.page_record.specs.declared.Page.{Page}
 use Rattle.page_record.specs.Holders.{is_stored, exc_value, has_bucket, exc_bucket, loading_bucket, no_load, is_editing}
 use Rattle.page_record.specs.Pages.{head_of}
@@ -24,26 +26,26 @@ use Rattle.demands.specs.Before.{plainly, named, loader_came, editor_came, befor
 -- ---- what reads as an arrival
 no_arrivals : (e : ExcState) (b : ℕ) → arrivals b (editor_came e) ≡ 0
 no_arrivals ExcState.None b = refl
-no_arrivals (ExcState.Claim MaybeBucket.None w) b = refl
-no_arrivals (ExcState.Claim (MaybeBucket.At x) w) b = refl
-no_arrivals (ExcState.PendingAwaitWriteback MaybeBucket.None w) b = refl
-no_arrivals (ExcState.PendingAwaitWriteback (MaybeBucket.At x) w) b = refl
-no_arrivals (ExcState.Pending MaybeBucket.None n c w) b = refl
-no_arrivals (ExcState.Pending (MaybeBucket.At x) n c w) b = refl
-no_arrivals (ExcState.Obtained MaybeBucket.None c w) b = refl
-no_arrivals (ExcState.Obtained (MaybeBucket.At x) c w) b = refl
+no_arrivals (ExcState.Claim None w) b = refl
+no_arrivals (ExcState.Claim (Some x) w) b = refl
+no_arrivals (ExcState.PendingAwaitWriteback None w) b = refl
+no_arrivals (ExcState.PendingAwaitWriteback (Some x) w) b = refl
+no_arrivals (ExcState.Pending None n c w) b = refl
+no_arrivals (ExcState.Pending (Some x) n c w) b = refl
+no_arrivals (ExcState.Obtained None c w) b = refl
+no_arrivals (ExcState.Obtained (Some x) c w) b = refl
 
 loader_arrived : (l : LoadingState) (past : List Event) (b : ℕ) → arrivals b past ≡ 0
     → arrivals b (loader_came l ++ past) ≡ ref_at (loading_bucket l) b
 loader_arrived LoadingState.None past b none = none
 loader_arrived LoadingState.Pending past b none = omega arith
-loader_arrived (LoadingState.PendingCounted MaybeBucket.None) past b none = omega arith
-loader_arrived (LoadingState.PendingCounted (MaybeBucket.At x)) past b none = omega arith
-loader_arrived (LoadingState.Obtained MaybeBucket.None) past b none = omega arith
-loader_arrived (LoadingState.Obtained (MaybeBucket.At x)) past b none = omega arith
+loader_arrived (LoadingState.PendingCounted None) past b none = omega arith
+loader_arrived (LoadingState.PendingCounted (Some x)) past b none = omega arith
+loader_arrived (LoadingState.Obtained None) past b none = omega arith
+loader_arrived (LoadingState.Obtained (Some x)) past b none = omega arith
 
 -- ---- what the words say of some requests
-record Said (s : Start) (past : List Event) (last : MaybeBucket) (since : Bool) (editor : MaybeBucket) (value took : ℕ) (out : Bool)
+record Said (s : Start) (past : List Event) (last : Option Bucket) (since : Bool) (editor : Option Bucket) (value took : ℕ) (out : Bool)
     : Type 0 where
   last_named : last_counted s past ≡ last
   counted : counted_since s past ≡ since
@@ -56,31 +58,31 @@ record Said (s : Start) (past : List Event) (last : MaybeBucket) (since : Bool) 
 -- ---- before the start
 module _ (counts : ℕ → ℕ) (v : ℕ) where
   abbrev bare : Start
-  bare = record { counts = counts; value = v; out = false; loader = MaybeBucket.None; editor = MaybeBucket.None }
+  bare = record { counts = counts; value = v; out = false; loader = None; editor = None }
 
   -- of the editor, a 4 is looked at, and an 8
-  claim_said : (m : MaybeBucket) → Said bare (named 4 m) MaybeBucket.None false m v v false
-  claim_said MaybeBucket.None =
+  claim_said : (m : Option Bucket) → Said bare (named 4 m) None false m v v false
+  claim_said None =
       record { last_named = refl; counted = refl; edited = refl; left = λ b. refl; put = refl; taken = refl; withdrew = refl }
-  claim_said (MaybeBucket.At x) =
+  claim_said (Some x) =
       record { last_named = refl; counted = refl; edited = refl; left = λ b. refl; put = refl; taken = refl; withdrew = refl }
 
   editor_said : (e : ExcState)
-      → Said bare (editor_came e) MaybeBucket.None false (exc_bucket e) v (cond (is_editing e) (exc_value e) v) (is_editing e)
-  editor_said ExcState.None = claim_said MaybeBucket.None
+      → Said bare (editor_came e) None false (exc_bucket e) v (cond (is_editing e) (exc_value e) v) (is_editing e)
+  editor_said ExcState.None = claim_said None
   editor_said (ExcState.Claim m w) = claim_said m
   editor_said (ExcState.PendingAwaitWriteback m w) = claim_said m
   editor_said (ExcState.Pending m n c w) = claim_said m
-  editor_said (ExcState.Obtained MaybeBucket.None c w) =
+  editor_said (ExcState.Obtained None c w) =
       record { last_named = refl; counted = refl; edited = refl; left = λ b. refl; put = refl; taken = refl; withdrew = refl }
-  editor_said (ExcState.Obtained (MaybeBucket.At x) c w) =
+  editor_said (ExcState.Obtained (Some x) c w) =
       record { last_named = refl; counted = refl; edited = refl; left = λ b. refl; put = refl; taken = refl; withdrew = refl }
 
   -- a loader withdrew the page, whatever came before it, and the bucket that it has was named since
-  fetched_said : (m : MaybeBucket) (past : List Event) (editor : MaybeBucket) (took : ℕ) (out : Bool)
-      → Said bare past MaybeBucket.None false editor v took out
+  fetched_said : (m : Option Bucket) (past : List Event) (editor : Option Bucket) (took : ℕ) (out : Bool)
+      → Said bare past None false editor v took out
       → Said bare ((named 13 m ++ plainly 11 ∷ []) ++ past) m (has_bucket m) editor v took true
-  fetched_said MaybeBucket.None past editor took out t =
+  fetched_said None past editor took out t =
       record {
         last_named = t.last_named;
         counted = refl;
@@ -90,7 +92,7 @@ module _ (counts : ℕ → ℕ) (v : ℕ) where
         taken = t.taken;
         withdrew = refl;
       }
-  fetched_said (MaybeBucket.At x) past editor took out t =
+  fetched_said (Some x) past editor took out t =
       record {
         last_named = refl;
         counted = refl;
@@ -101,11 +103,11 @@ module _ (counts : ℕ → ℕ) (v : ℕ) where
         withdrew = refl;
       }
 
-  loader_said : (l : LoadingState) (past : List Event) (editor : MaybeBucket) (took : ℕ) (out : Bool)
-      → Said bare past MaybeBucket.None false editor v took out
+  loader_said : (l : LoadingState) (past : List Event) (editor : Option Bucket) (took : ℕ) (out : Bool)
+      → Said bare past None false editor v took out
       → Said bare (loader_came l ++ past) (loading_bucket l) (has_bucket (loading_bucket l)) editor v took (not (no_load l) || out)
   loader_said LoadingState.None past editor took out t = t
-  loader_said LoadingState.Pending past editor took out t = fetched_said MaybeBucket.None past editor took out t
+  loader_said LoadingState.Pending past editor took out t = fetched_said None past editor took out t
   loader_said (LoadingState.PendingCounted m) past editor took out t = fetched_said m past editor took out t
   loader_said (LoadingState.Obtained m) past editor took out t = fetched_said m past editor took out t
 

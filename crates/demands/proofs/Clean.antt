@@ -3,6 +3,7 @@
 -- 9, 10, 29 and 30 put in what may be put in, and any other leaves the editor there, as clean as it was and with the value that it
 -- keeps. Whatever is asked is a request that is stepped, or is refused (`Acted`, Asked.antt), so that the editor keeps on (`keeps_on`)
 -- until one of the four puts in what was kept (`gives_kept`). Assumes nothing.
+use Rattle.std.specs.Prelude.{Option, Some, Result, Ok, Err}
 use Prim.Native.Nat.{ℕ, zero, suc}
 use mathlib.Core.Path.{◌≡◌, refl, sym, ap, ◌∙◌}
 use mathlib.Core.Logic.{inl, inr}
@@ -13,7 +14,7 @@ use lib.Dec.{T, eqb, leb, eqb→eq}
 use Rattle.laws.specs.Lists.{among}
 use Rattle.laws.proofs.Tests.{to_true, halves}
 use Rattle.laws.proofs.Pick.{Below, ◌&◌, pick}
-use Rattle.kinds.specs.declared.{Bucket.Bucket, MaybeBucket.MaybeBucket, Storage.Storage, Reader.Reader, ExcState.ExcState}
+use Rattle.kinds.specs.declared.{Bucket.Bucket, Reader.Reader, ExcState.ExcState}
 use Rattle.kinds.specs.declared.Visited.{Visited}
 use Rattle.kinds.specs.Limits.{capacity}
 use Rattle.kinds.specs.Numbers.{exc_from}
@@ -26,7 +27,7 @@ use Rattle.soundness.specs.Soundness.{sound_of}
 use Rattle.soundness.proofs.Facts.{Sound}
 use Rattle.soundness.proofs.Tested.{facts}
 use Rattle.soundness.proofs.Known.{known}
-use Rattle.requests.specs.declared.{Request.Request, Answer.Answer, Verdict.Verdict, Refusal.Refusal}
+use Rattle.requests.specs.declared.{Request.Request, Answer.Answer, Refusal.Refusal}
 use Rattle.requests.specs.Answers.{answer_number}
 use Rattle.requests.specs.Premises.{Passes, verdict}
 use Rattle.requests.specs.Requests.{is_step, formal, judged, past_last}
@@ -67,12 +68,12 @@ module _ (p : Page) (q : Request) where
   unfolding step_of decide_of judged
   ran = go (sound_of p) refl (judged q) refl (verdict asked.premises) refl
     where
-      go : (s : Bool) → sound_of p ≡ s → (v : Verdict) → judged q ≡ v → (w : Verdict) → verdict asked.premises ≡ w
+      go : (s : Bool) → sound_of p ≡ s → (v : Result (Unit {0}) Refusal) → judged q ≡ v → (w : Result (Unit {0}) Refusal) → verdict asked.premises ≡ w
           → T (eqb (answer_number (step_of p q).answer) 0) → Ran
       go false e v f w g t = absurd (rw e at t)
-      go true e (Verdict.Failed why) f w g t = absurd (refused_not why (rw (e, f) at t))
-      go true e Verdict.Passed f (Verdict.Failed why) g t = absurd (refused_not why (rw (e, f, g) at t))
-      go true e Verdict.Passed f Verdict.Passed g t = record {
+      go true e (Err why) f w g t = absurd (refused_not why (rw (e, f) at t))
+      go true e (Ok _) f (Err why) g t = absurd (refused_not why (rw (e, f, g) at t))
+      go true e (Ok _) f (Ok _) g t = record {
         sound = rw e tt;
         known = (passed (formal q) f).0;
         passes = passed asked.premises g;
@@ -83,15 +84,15 @@ module _ (p : Page) (q : Request) where
 
 -- ---- beside an editor that has the page out
 -- this value may be put in, and is in storage then
-abbrev PutIn : Bool → ℕ → ℕ → Storage → Type 0
-PutIn clean kept value s = T (may_put_in clean kept value) × (s ≡ Storage.In value)
+abbrev PutIn : Bool → ℕ → ℕ → Option ℕ → Type 0
+PutIn clean kept value s = T (may_put_in clean kept value) × (s ≡ Some value)
 
 -- this holder, but for its bucket
 abbrev Keeping : Bool → ℕ → ExcState → Type 0
-Keeping clean kept e = (m : MaybeBucket) × (e ≡ ExcState.Obtained m clean kept)
+Keeping clean kept e = (m : Option Bucket) × (e ≡ ExcState.Obtained m clean kept)
 
 module _ (h : Head) (l : List Reader) (b : Bucket) (said value : ℕ) (full : Bool) (s : Sound h l)
-    (m : MaybeBucket) (clean : Bool) (kept : ℕ) (is : h.exc_state ≡ ExcState.Obtained m clean kept) where
+    (m : Option Bucket) (clean : Bool) (kept : ℕ) (is : h.exc_state ≡ ExcState.Obtained m clean kept) where
   abbrev ask : ℕ → Request
   ask n = record { step = n; bucket = b; clean = said; value = value }
 
@@ -110,7 +111,7 @@ module _ (h : Head) (l : List Reader) (b : Bucket) (said value : ℕ) (full : Bo
 
   -- it puts the value in
   puts : {A : Type 0} → T (may_put_in (exc_clean h.exc_state) (exc_value h.exc_state) value)
-      → (Unit {0} → PutIn clean kept value (Storage.In value)) × (⊥ → A)
+      → (Unit {0} → PutIn clean kept value (Some value)) × (⊥ → A)
   puts t = (λ k. (rw is at t, refl), λ k. absurd k)
 
   -- nobody claims beside it
@@ -131,7 +132,7 @@ module _ (h : Head) (l : List Reader) (b : Bucket) (said value : ℕ) (full : Bo
       & (λ t. puts t.1.1.1.0)
       & (λ t. puts t.1.1.0)
       & (λ t. stays) & (λ t. stays) & (λ t. stays) & (λ t. stays) & (λ t. stays) & (λ t. stays) & (λ t. stays)
-      & (λ t. (λ k. absurd k, λ k. (MaybeBucket.At b, rw is)))
+      & (λ t. (λ k. absurd k, λ k. (Some b, rw is)))
       & (λ t. stays) & (λ t. stays) & (λ t. stays) & (λ t. stays) & (λ t. stays) & (λ t. stays)
       & (λ t. absurd (rw is at t.0))
       & (λ t. absurd (rw is at t.0))
@@ -142,7 +143,7 @@ module _ (h : Head) (l : List Reader) (b : Bucket) (said value : ℕ) (full : Bo
       & tt
 
 -- the step that an accepted request names
-module _ (p : Page) (q : Request) (m : MaybeBucket) (clean : Bool) (kept : ℕ) (is : p.exc_state ≡ ExcState.Obtained m clean kept)
+module _ (p : Page) (q : Request) (m : Option Bucket) (clean : Bool) (kept : ℕ) (is : p.exc_state ≡ ExcState.Obtained m clean kept)
     (r : Ran p q) where
   beside_at : (T (among putting_back q.step) → PutIn clean kept q.value (asked p q).head.storage)
       × (T (not (among putting_back q.step)) → Keeping clean kept (asked p q).head.exc_state)
@@ -181,7 +182,7 @@ module _ (p : Page) (q : Request) (clean : Bool) (kept : ℕ) (k : Keeping clean
 -- 8 hands out what storage holds, and its holder keeps that
 record Took (p p' : Page) (e : Event) : Type 0 where
   handed : e.answer ≡ Answer.Withdrew (exc_value p.exc_state)
-  held : p.storage ≡ Storage.In (exc_value p.exc_state)
+  held : p.storage ≡ Some (exc_value p.exc_state)
   kept : p'.exc_state ≡ ExcState.Obtained (exc_bucket p.exc_state) (exc_clean p.exc_state) (exc_value p.exc_state)
 
 took : (p : Page) (q : Request) → T (accepted (8 ∷ []) (event p q)) → Took p (step_of p q).page (event p q)
@@ -205,7 +206,7 @@ took p q t =
 
 -- ---- an editor that was read
 -- one that was read as Obtained was read with the value at its place
-value_read : (n : ℕ) (m : MaybeBucket) (x : Visited) (c : Bool) (v : ℕ) → T (is_editing (exc_from n m x c v))
+value_read : (n : ℕ) (m : Option Bucket) (x : Visited) (c : Bool) (v : ℕ) → T (is_editing (exc_from n m x c v))
     → exc_value (exc_from n m x c v) ≡ v
 unfolding exc_from
 value_read zero m x c v t = absurd t
@@ -221,10 +222,10 @@ kept_read : (l : List ℕ) → T (is_editing (restored_from l).page.exc_state)
 unfolding restored_from page_from head_from exc_from_bytes fresh_page
 kept_read l = go (read_verdict (page_from l) l)
   where
-    go : (v : Verdict) → T (is_editing (restored_as (page_from l) v).page.exc_state)
+    go : (v : Result (Unit {0}) Refusal) → T (is_editing (restored_as (page_from l) v).page.exc_state)
         → exc_value (restored_as (page_from l) v).page.exc_state ≡ u64_at 40 l
-    go Verdict.Passed t = value_read _ _ _ _ (u64_at 40 l) t
-    go (Verdict.Failed why) t = absurd t
+    go (Ok _) t = value_read _ _ _ _ (u64_at 40 l) t
+    go (Err why) t = absurd t
 
 -- ---- whatever is asked
 -- a clean editor that has the page out keeps its value
@@ -254,7 +255,7 @@ module _ (way : Asking) (acts : Acts way) where
 
     -- what is put in is what was kept, and it is in storage then
     gives_asked : (kept : ℕ) → Keeping true kept p.exc_state → T (accepted putting_back (way.event p a))
-        → ((way.event p a).request.value ≡ kept) × ((way.page p a).storage ≡ Storage.In (way.event p a).request.value)
+        → ((way.event p a).request.value ≡ kept) × ((way.page p a).storage ≡ Some (way.event p a).request.value)
     gives_asked kept k t =
         let s = stepped putting_back t in
         let put = puts_kept p s.0 true kept k (rw s.1 at t) in
@@ -269,7 +270,7 @@ module _ (way : Asking) (acts : Acts way) where
   gives_kept : (kept : ℕ) (p : Page) (between : List way.Ask) (giving : way.Ask) → Keeping true kept p.exc_state
       → FirstBack way p between giving
       → ((way.event (left way p between) giving).request.value ≡ kept)
-      × ((way.page (left way p between) giving).storage ≡ Storage.In (way.event (left way p between) giving).request.value)
+      × ((way.page (left way p between) giving).storage ≡ Some (way.event (left way p between) giving).request.value)
   gives_kept kept p between giving k first =
       gives_asked (left way p between) giving kept (keeps_on true kept p between k first.none_before) first.back
 
@@ -283,7 +284,7 @@ module _ (way : Asking) (acts : Acts way) where
       let given = gives_kept (exc_value e) (way.page p taking) between giving (exc_bucket e, keeps) first in
       record {
         handed = ap (λ (x : Event). x.answer) s.1 ∙ t.handed ∙ ap (λ (v : ℕ). Answer.Withdrew v) (sym given.0);
-        held = t.held ∙ ap (λ (v : ℕ). Storage.In v) (sym given.0);
+        held = t.held ∙ ap (λ (v : ℕ). Some v) (sym given.0);
         holds = given.1;
       }
 

@@ -1,5 +1,6 @@
 -- Demand 1, proved: each number is the first of its table that applies, by the theorems of `lock`, `wire` and `replay`, and the
 -- tables go up, so it is the lowest (`laws`); the rest is the run's. Assumes nothing.
+use Rattle.std.specs.Prelude.{Result, Ok, Err}
 use Prim.Native.Nat.{ℕ, ◌*◌, ◌/◌, ◌<◌}
 use mathlib.Core.Path.{◌≡◌, refl, sym, ap, ◌∙◌}
 use mathlib.Core.Logic.{◌↔◌}
@@ -16,12 +17,12 @@ use Rattle.kinds.specs.Limits.{line_size}
 use Rattle.page_record.specs.declared.Page.{Page}
 use Rattle.soundness.specs.Soundness.{sound_of}
 use Rattle.requests.specs.declared.{Answer.Answer, Request.Request}
+use Rattle.requests.specs.declared.Refusal.{Refusal}
 use Rattle.requests.specs.Answers.{answer_number, withdraws}
 use Rattle.requests.proofs.Reasons.{refusal_above}
 use Rattle.lock.specs.declared.Outcome.{Outcome}
 use Rattle.lock.proofs.Keeps.{refused_keeps_all}
 use Rattle.lock.proofs.Least.{least_number, number_first, number_none}
-use Rattle.wire.specs.declared.Reading.{Reading}
 use Rattle.wire.specs.Requests.{fields_of, reading_number, read_of}
 use Rattle.wire.specs.Applies.{applying_bytes, applying_write}
 use Rattle.wire.proofs.Least.{read_whole, read_ragged_number, write_number, write_plain}
@@ -61,12 +62,12 @@ accepts_none a cs plain e none = (
 )
 
 -- a reading of number 0 is a request
-zero_read : (l : List ℕ) → reading_number (read_of l) ≡ 0 → read_of l ≡ Reading.Request (fields_of l)
+zero_read : (l : List ℕ) → reading_number (read_of l) ≡ 0 → read_of l ≡ Ok (fields_of l)
 zero_read l e = go (read_of l) refl
   where
-    go : (r : Reading) → read_of l ≡ r → read_of l ≡ Reading.Request (fields_of l)
-    go (Reading.Request q) f = f ∙ ap Reading.Request (sym (accepted l q f).fields)
-    go (Reading.Refused why) f = absurd (omega (arith, sym (ap reading_number f) ∙ e, refusal_above why))
+    go : (r : Result Request Refusal) → read_of l ≡ r → read_of l ≡ Ok (fields_of l)
+    go (Ok q) f = f ∙ ap Ok (sym (accepted l q f).fields)
+    go (Err why) f = absurd (omega (arith, sym (ap reading_number f) ∙ e, refusal_above why))
 
 pub demand1_read : (l : List ℕ) → Demand1Read l
 demand1_read l = record {
@@ -76,7 +77,7 @@ demand1_read l = record {
   fields = λ q e. (accepted l q e).fields;
 }
   where
-    there : read_of l ≡ Reading.Request (fields_of l) → (length l ≡ line_size) × ((n : ℕ) → applies_in (applying_bytes l) n ≡ false)
+    there : read_of l ≡ Ok (fields_of l) → (length l ≡ line_size) × ((n : ℕ) → applies_in (applying_bytes l) n ≡ false)
     there e =
         let whole = (accepted l (fields_of l) e).whole in
         (whole, (first_none (applying_bytes l) tt).0 (sym (read_whole l whole) ∙ ap reading_number e))

@@ -1,16 +1,16 @@
 -- Demand 2, proved: the lock's `exact`; for a line of a run, by the page that the requests before it left; and the round trips of
 -- `wire`. Assumes nothing.
+use Rattle.std.specs.Prelude.{Ok}
 use Prim.Native.Nat.{ℕ}
 use mathlib.Core.Path.{◌≡◌, ap, sym, ◌∙◌}
 use mathlib.Core.List.{List, [], ◌∷◌}
 use native.Mathlib.Omega.{arith}
 use lib.ListN.{length}
 use Rattle.kinds.specs.Limits.{line_size}
-use Rattle.requests.specs.declared.{Answer.Answer, Request.Request, Verdict.Verdict}
+use Rattle.requests.specs.declared.{Answer.Answer, Request.Request}
 use Rattle.requests.specs.Premises.{verdict}
 use Rattle.requests.specs.Requests.{formal, judged}
 use Rattle.lock.proofs.Exact.{exact}
-use Rattle.wire.specs.declared.Reading.{Reading}
 use Rattle.wire.specs.Buffers.{room}
 use Rattle.wire.specs.Requests.{InRange, bytes_of, read_of, writable, wrote_answer, wrote_to}
 use Rattle.wire.specs.Bytes.{Bytes}
@@ -34,19 +34,19 @@ demand2_run p requests k q read p' out =
 -- ---- bytes
 module _ (l buffer : List ℕ) (q : Request) (bytes : Bytes l) (sixteen : length buffer ≡ line_size) where
   -- what fits is written: into sixteen bytes, so that nothing of the buffer is left
-  written : judged q ≡ Verdict.Passed → (Answer.Accepted ≡ wrote_answer q buffer) × (bytes_of q ≡ wrote_to q buffer)
+  written : judged q ≡ Ok tt → (Answer.Accepted ≡ wrote_answer q buffer) × (bytes_of q ≡ wrote_to q buffer)
   unfolding bytes_of
   written fits =
       write_granted q buffer Answer.Accepted (bytes_of q) fits
       (sym (put_fits (bytes_of q) buffer (omega arith)).0) (sym (put_whole (bytes_of q) buffer sixteen))
 
-  there : read_of l ≡ Reading.Request q → InRange q × (wrote_answer q buffer ≡ Answer.Accepted) × (wrote_to q buffer ≡ l)
+  there : read_of l ≡ Ok q → InRange q × (wrote_answer q buffer ≡ Answer.Accepted) × (wrote_to q buffer ≡ l)
   there e =
       let a = accepted l q e in
       let w = written a.fits in
       (rw (← a.fields) (in_range l bytes), sym w.0, sym w.1 ∙ read_write l q bytes e)
 
-  back : InRange q × (wrote_answer q buffer ≡ Answer.Accepted) × (wrote_to q buffer ≡ l) → read_of l ≡ Reading.Request q
+  back : InRange q × (wrote_answer q buffer ≡ Answer.Accepted) × (wrote_to q buffer ≡ l) → read_of l ≡ Ok q
   unfolding wrote_answer judged
   back w =
       let fits = holds_before (formal q) (room buffer ∷ []) (answer_passed (verdict (writable q buffer)) w.1) in

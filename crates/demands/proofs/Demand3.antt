@@ -2,6 +2,7 @@
 -- of counts, storage and the values kept and handed out (proofs/Told.antt, Asked.antt); soundness carries storage's value to every
 -- holder, and shuts readers and the archive out while the page is out. A fresh page is one to start from (`demand3`), and what it
 -- starts with is plain (`fresh_start`, `counted_fresh`). Assumes nothing.
+use Rattle.std.specs.Prelude.{Option, Some, None}
 use Prim.Native.Nat.{ℕ, ◌+◌, ◌<◌}
 use mathlib.Core.Path.{◌≡◌, refl, ap, ◌∙◌}
 use mathlib.Core.Bool.{Bool, true, false, not, cond, ◌&&◌, ◌||◌}
@@ -11,8 +12,8 @@ use lib.Dec.{T, eqb}
 use lib.ListN.{replicate}
 use Rattle.laws.proofs.Lists.{every_at}
 use Rattle.laws.proofs.Arms.{copies_at}
-use Rattle.kinds.specs.declared.{Phase.Phase, Reader.Reader, Storage.Storage, WritebackState.WritebackState}
-use Rattle.kinds.specs.declared.{MaybeBucket.MaybeBucket, Count.Count}
+use Rattle.kinds.specs.declared.{Phase.Phase, Reader.Reader}
+use Rattle.kinds.specs.declared.Count.{Count}
 use Rattle.kinds.specs.Limits.{buckets}
 use Rattle.kinds.specs.Numbers.{phase_number}
 use Rattle.readers.specs.Listed.{live, blank_reader}
@@ -48,28 +49,28 @@ module _ (start : Start) (p : Page) (past : List Event) (s : Sound (head_of p) (
   abbrev h : Head
   h = head_of p
 
-  was_put : (v : ℕ) → p.storage ≡ Storage.In v → v ≡ last_put start past
+  was_put : (v : ℕ) → p.storage ≡ Some v → v ≡ last_put start past
   was_put = put_in start p.storage past told.stored
 
   out_is : is_stored p.storage ≡ not (last_withdrew start past)
   out_is = ap is_stored told.stored ∙ go (last_withdrew start past)
     where
-      go : (t : Bool) → is_stored (cond t Storage.Out (Storage.In (last_put start past))) ≡ not t
+      go : (t : Bool) → is_stored (cond t None (Some (last_put start past))) ≡ not t
       go true = refl
       go false = refl
 
   -- a reader that has come through holds storage's value
-  reads : (r : Reader) → Listed p r → (v : ℕ) → r.phase ≡ Phase.Obtained v → p.storage ≡ Storage.In v
+  reads : (r : Reader) → Listed p r → (v : ℕ) → r.phase ≡ Phase.Obtained v → p.storage ≡ Some v
   reads r at v e =
       let valid = valid_phase h r (rw at.stands at (listed_valid s at.place at.below)) in
       is_holding p.storage v ((hold_iff h r.bucket.0 v).0 (rw e at valid)).0
 
-  apart : (v : ℕ) → p.storage ≡ Storage.Out → p.storage ≡ Storage.In v → ⊥
+  apart : (v : ℕ) → p.storage ≡ None → p.storage ≡ Some v → ⊥
   apart v o e = let z : ◌≡◌ {A = ℕ} 0 1 = cc in omega arith
 
-  idle : (w : WritebackState) → p.writeback_state ≡ w → p.storage ≡ Storage.Out → w ≡ WritebackState.None
-  idle WritebackState.None e o = refl
-  idle (WritebackState.Held v) e o = absurd (apart v o ((known s).archive_in v e))
+  idle : (w : Option ℕ) → p.writeback_state ≡ w → p.storage ≡ None → w ≡ None
+  idle None e o = refl
+  idle (Some v) e o = absurd (apart v o ((known s).archive_in v e))
 
   shut : (r : Reader) → Listed p r → T (is_editing p.exc_state) → T (reader_pending r)
   shut r at t =
@@ -119,10 +120,10 @@ demand3_from = demand3_asked by_request request_acts
 -- nothing has come, this value was put in, the page is in, and nobody loads or edits
 pub fresh_start : (v : ℕ)
     → start_of (fresh_page v)
-    ≡ record { counts = λ b. 0; value = v; out = false; loader = MaybeBucket.None; editor = MaybeBucket.None }
+    ≡ record { counts = λ b. 0; value = v; out = false; loader = None; editor = None }
 unfolding fresh_page
 fresh_start v =
-    λ i. record { counts = λ b. none b i; value = v; out = false; loader = MaybeBucket.None; editor = MaybeBucket.None }
+    λ i. record { counts = λ b. none b i; value = v; out = false; loader = None; editor = None }
   where
     none : (b : ℕ) → number_at (replicate buckets (record { 0 = 0 })) b ≡ 0
     none b = ap (λ (c : Count). c.0) (copies_at buckets b (record { 0 = 0 }))

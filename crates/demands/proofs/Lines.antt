@@ -1,6 +1,7 @@
 -- Demand 3 for runs: requests come as bytes and answers as lines. Any runs are their lines, one after the other (`as_lines`); the answers
 -- of a run are the lines of the events that it adds, in the same order (`lines_told`); and what demand 3 says holds of the page after
 -- any runs from a sound page (`demand3_runs_from`), a fresh one among them (`demand3_runs`). Assumes nothing.
+use Rattle.std.specs.Prelude.{Result, Ok, Err}
 use Prim.Native.Nat.{ℕ}
 use mathlib.Core.Path.{◌≡◌, refl, sym, ap, ◌∙◌}
 use mathlib.Core.List.{List, [], ◌∷◌, ◌++◌, append_assoc, append-nil}
@@ -10,7 +11,8 @@ use Rattle.page_record.specs.declared.Page.{Page}
 use Rattle.page_record.specs.Pages.{fresh_page}
 use Rattle.soundness.specs.Soundness.{sound_of}
 use Rattle.soundness.proofs.FreshPage.{fresh_sound}
-use Rattle.requests.specs.declared.{Answer.Answer, Verdict.Verdict}
+use Rattle.requests.specs.declared.Answer.{Answer}
+use Rattle.requests.specs.declared.Refusal.{Refusal}
 use Rattle.wire.specs.Answers.{line_of}
 use Rattle.replay.specs.Turns.{turn_of}
 use Rattle.replay.specs.Run.{requests_of, page_after, lines_of, run_verdict, ends, ran_of, answers_of}
@@ -27,9 +29,9 @@ pub lines_left : (p : Page) (rs : List (List ℕ)) → page_after p rs ≡ left 
 lines_left p [] = refl
 lines_left p (r ∷ rs) = lines_left (turn_of p r).page rs
 
-run_left : (p : Page) (requests : List ℕ) (v : Verdict) → (ends p requests v).page ≡ left by_line p (lines_in requests v)
-run_left p requests Verdict.Passed = lines_left p (requests_of requests)
-run_left p requests (Verdict.Failed why) = refl
+run_left : (p : Page) (requests : List ℕ) (v : Result (Unit {0}) Refusal) → (ends p requests v).page ≡ left by_line p (lines_in requests v)
+run_left p requests (Ok _) = lines_left p (requests_of requests)
+run_left p requests (Err why) = refl
 
 pub as_lines : (p : Page) (gs : List Given) → AsLines p gs
 unfolding ran_of

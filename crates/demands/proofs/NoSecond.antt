@@ -1,6 +1,6 @@
 -- No second answer: for each public function of every crate, two results that both meet its contract are one, the bytes of a
 -- lent buffer at exit included. Each lemma speaks of the contract itself (`Post`, as the checker has it), so a promise that
--- is weakened, or dropped, fails here. `apply` is proved by hand and its contract has no such name: `apply_says` is
+-- is weakened, or dropped, fails here. That of `apply` is taken as the logic has it: `apply_says` is
 -- its lemma's other half, that the contract is the fact of two equations. Assumes nothing.
 use mathlib.Core.Path.{◌≡◌, refl, sym, ◌∙◌}
 use seplogic.Ra.Ura.{Ura}
@@ -41,6 +41,7 @@ use Rattle.kinds.proofs.phase_number.Reads as phase_number_contract
 use Rattle.readers.proofs.same.Reads as same_contract
 use Rattle.readers.proofs.blank.Reads as blank_contract
 use Rattle.readers.proofs.empty.Reads as empty_contract
+use Rattle.readers.proofs.live.Reads as live_contract
 use Rattle.readers.proofs.find.Reads as find_contract
 use Rattle.readers.proofs.count_at.Reads as count_at_contract
 use Rattle.readers.proofs.count_in.Reads as count_in_contract
@@ -139,7 +140,9 @@ use Rattle.lock.proofs.step.Reads as step_contract
 use Rattle.lock.specs.contracts.apply as apply_contract
 use Rattle.lock.proofs.lend.Reads as lend_contract
 use Rattle.wire.proofs.is_blank.Reads as is_blank_contract
+use Rattle.wire.proofs.byte_at.Reads as byte_at_contract
 use Rattle.wire.proofs.read_u64.Reads as read_u64_contract
+use Rattle.wire.proofs.u64_at.Reads as u64_at_contract
 use Rattle.wire.proofs.read.Reads as read_contract
 use Rattle.wire.proofs.write_u64.Reads as write_u64_contract
 use Rattle.wire.proofs.put.Reads as put_line_contract
@@ -171,7 +174,11 @@ abbrev pub AtMostOneWith : {K I R O B : Type 0} → (O → B) → Contract K I R
 AtMostOneWith {K} {I} {R} {O} lent Post = (κ : K) (i : I) (o o' : O) (x y : R) → Post κ i x o → Post κ i y o'
     → (x ≡ y) × (lent o ≡ lent o')
 
--- ---- the three laws
+-- at most one content of what is answered, where that is a reference
+abbrev pub AtMostOneSeen : {K I R O B : Type 0} → (R → B) → Contract K I R O → Type 0
+AtMostOneSeen {K} {I} {R} {O} seen Post = (κ : K) (i : I) (o o' : O) (x y : R) → Post κ i x o → Post κ i y o' → seen x ≡ seen y
+
+-- ---- the four laws
 -- an equation
 pub equation : {K I R O : Type 0} (f : I → R) → AtMostOne (λ (κ : K) (i : I) (r : R) (o : O). r ≡ f i)
 equation f κ i o o' x y d e = d ∙ sym e
@@ -184,6 +191,10 @@ equations lent f g κ i o o' x y d e = (d.0 ∙ sym e.0, d.1 ∙ sym e.1)
 -- an equation for what is lent alone, where nothing is answered
 pub filling : {K I O B : Type 0} (lent : O → B) (g : I → B) → AtMostOneWith lent (λ (κ : K) (i : I) (r : Unit {0}) (o : O). lent o ≡ g i)
 filling lent g κ i o o' x y d e = (refl, d ∙ sym e)
+
+-- an equation for the content of what is answered
+pub content : {K I R O B : Type 0} (seen : R → B) (f : I → B) → AtMostOneSeen seen (λ (κ : K) (i : I) (r : R) (o : O). seen r ≡ f i)
+content seen f κ i o o' x y d e = d ∙ sym e
 
 -- ---- kinds
 pub awaited : AtMostOne awaited_contract.Post
@@ -273,6 +284,9 @@ blank = equation _
 
 pub empty : AtMostOne empty_contract.Post
 empty = equation _
+
+pub live : AtMostOneSeen (λ r. r.now) live_contract.Post
+live = content (λ r. r.now) _
 
 pub find : AtMostOne find_contract.Post
 find = equation _
@@ -561,8 +575,8 @@ take_step = equation _
 pub step : AtMostOne step_contract.Post
 step = equation _
 
--- the checker has what `apply` promises, which is proved by hand, as a proposition of the logic: it is just the fact of two
--- equations, of the answer and of the lent page at exit
+-- what `apply` promises is, as a proposition of the logic, just the fact of two equations, of the answer and of the lent page at
+-- exit
 abbrev Applied : Unit {0} → Page × Request → Answer → Page → Type 0
 Applied κ i r o = (r ≡ (step_of i.0 i.1).answer) × (o ≡ (step_of i.0 i.1).page)
 
@@ -582,8 +596,14 @@ lend = equation _
 pub is_blank : AtMostOne is_blank_contract.Post
 is_blank = equation _
 
+pub byte_at : AtMostOne byte_at_contract.Post
+byte_at = equation _
+
 pub read_u64 : AtMostOne read_u64_contract.Post
 read_u64 = equation _
+
+pub u64_at : AtMostOne u64_at_contract.Post
+u64_at = equation _
 
 pub write_u64 : AtMostOneWith (λ o. o.0.now) write_u64_contract.Post
 write_u64 = filling (λ o. o.0.now) _

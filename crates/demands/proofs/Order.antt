@@ -2,6 +2,7 @@
 -- (`run_free`) and take any piece alike (`piece_free`); and after any requests answers, counts and census are those of a list that closes
 -- the gap (`unseen`). One request, answered by the lock and on that list (`closes_alike`): by `order_free`, and since both ways take the
 -- same entry out (`closed_same`). Assumes nothing.
+use Rattle.std.specs.Prelude.{Result, Ok, Err}
 use Prim.Native.Nat.{ℕ, ◌+◌}
 use mathlib.Core.Path.{◌≡◌, refl, sym, ap, ◌∙◌}
 use mathlib.Core.Bool.{Bool, true, false, cond, false≢true}
@@ -23,14 +24,13 @@ use Rattle.soundness.specs.Soundness.{sound_of}
 use Rattle.soundness.proofs.Facts.{Sound}
 use Rattle.soundness.proofs.Tested.{facts}
 use Rattle.census.specs.Census.{census_of}
-use Rattle.requests.specs.declared.{Refusal.Refusal, Answer.Answer, Verdict.Verdict, Request.Request}
+use Rattle.requests.specs.declared.{Refusal.Refusal, Answer.Answer, Request.Request}
 use Rattle.requests.specs.Requests.{judged}
 use Rattle.heads.specs.declared.{Edit.Edit, Decision.Decision}
 use Rattle.lock.specs.Step.{edited, decided_on, refused_by, step_of}
 use Rattle.lock.specs.Order.{Alike, AnsweredAlike}
 use Rattle.lock.proofs.Keeps.{outcome_of, step_listed, step_keeps, unsound_stays, unfit_stays}
 use Rattle.lock.proofs.Order.{alike_of, order_free}
-use Rattle.wire.specs.declared.Reading.{Reading}
 use Rattle.wire.specs.Answers.{line_of}
 use Rattle.wire.specs.Requests.{read_of}
 use Rattle.replay.specs.Turns.{on_reading, turn_of}
@@ -87,13 +87,13 @@ closes_decided l d t =
 closes_own : (p : Page) → T (sound_of p) → (q : Request) → AnsweredAlike (step_of p q) (step_closing p q)
 closes_own p t q = go (judged q) refl
   where
-    go : (v : Verdict) → judged q ≡ v → AnsweredAlike (step_of p q) (cond (sound_of p) (stepped_closing p q v) (refused_by p Refusal.Unsound))
-    go Verdict.Passed e =
+    go : (v : Result (Unit {0}) Refusal) → judged q ≡ v → AnsweredAlike (step_of p q) (cond (sound_of p) (stepped_closing p q v) (refused_by p Refusal.Unsound))
+    go (Ok _) e =
         let l = live p.readers in
         let d = decided_on (head_of p) l q in
         let one = step_listed q e p t in
         rw (one, to_true (sound_of p) t) (closes_decided l d (rw one at (step_keeps p q t)))
-    go (Verdict.Failed why) e = rw (unfit_stays p q why t e, to_true (sound_of p) t) record { answer = refl; page = alike_refl p t }
+    go (Err why) e = rw (unfit_stays p q why t e, to_true (sound_of p) t) record { answer = refl; page = alike_refl p t }
 
 -- on two, each on its own list
 closes_alike : (p p' : Page) → Alike p p' → (q : Request) → AnsweredAlike (step_of p q) (step_closing p' q)
@@ -110,9 +110,9 @@ turn_free : (p p' : Page) → Alike p p' → (bytes : List ℕ) → AnsweredAlik
 unfolding turn_of
 turn_free p p' two bytes = go (read_of bytes)
   where
-    go : (r : Reading) → AnsweredAlike (on_reading p r) (on_reading p' r)
-    go (Reading.Request q) = order_free p p' two q
-    go (Reading.Refused why) = record { answer = refl; page = two }
+    go : (r : Result Request Refusal) → AnsweredAlike (on_reading p r) (on_reading p' r)
+    go (Ok q) = order_free p p' two q
+    go (Err why) = record { answer = refl; page = two }
 
 lines_same : (qs : List (List ℕ)) (p p' : Page) → Alike p p' → lines_of p qs ≡ lines_of p' qs
 lines_same [] p p' two = refl
@@ -136,17 +136,17 @@ run_free p p' two requests answers =
     let same = verdict_same p p' two (length requests) (length answers) in
     record { answer = rw same (answer given); lines = rw same (lines given); left = rw same (left given) }
   where
-    answer : (v : Verdict) → (ends p requests v).answer ≡ (ends p' requests v).answer
-    answer Verdict.Passed = refl
-    answer (Verdict.Failed why) = refl
+    answer : (v : Result (Unit {0}) Refusal) → (ends p requests v).answer ≡ (ends p' requests v).answer
+    answer (Ok _) = refl
+    answer (Err why) = refl
 
-    lines : (v : Verdict) → fills p requests answers v ≡ fills p' requests answers v
-    lines Verdict.Passed = ap (λ (l : List ℕ). l ++ drop (length requests) answers) (lines_same (requests_of requests) p p' two)
-    lines (Verdict.Failed why) = refl
+    lines : (v : Result (Unit {0}) Refusal) → fills p requests answers v ≡ fills p' requests answers v
+    lines (Ok _) = ap (λ (l : List ℕ). l ++ drop (length requests) answers) (lines_same (requests_of requests) p p' two)
+    lines (Err why) = refl
 
-    left : (v : Verdict) → Alike (ends p requests v).page (ends p' requests v).page
-    left Verdict.Passed = pages_alike (requests_of requests) p p' two
-    left (Verdict.Failed why) = two
+    left : (v : Result (Unit {0}) Refusal) → Alike (ends p requests v).page (ends p' requests v).page
+    left (Ok _) = pages_alike (requests_of requests) p p' two
+    left (Err why) = two
 
 -- ---- a piece, with any carry
 taking_same : (p p' : Page) → Alike p p' → (c : Carry) (piece space : ℕ) → piece_verdict p' c piece space ≡ piece_verdict p c piece space
@@ -166,26 +166,26 @@ piece_free p p' two c piece answers =
       left = rw same (left given);
     }
   where
-    answer : (v : Verdict) → (takes p c piece v).answer ≡ (takes p' c piece v).answer
-    answer Verdict.Passed = refl
-    answer (Verdict.Failed why) = refl
+    answer : (v : Result (Unit {0}) Refusal) → (takes p c piece v).answer ≡ (takes p' c piece v).answer
+    answer (Ok _) = refl
+    answer (Err why) = refl
 
-    carry : (v : Verdict) → (takes p c piece v).carry ≡ (takes p' c piece v).carry
-    carry Verdict.Passed = refl
-    carry (Verdict.Failed why) = refl
+    carry : (v : Result (Unit {0}) Refusal) → (takes p c piece v).carry ≡ (takes p' c piece v).carry
+    carry (Ok _) = refl
+    carry (Err why) = refl
 
-    count : (v : Verdict) → (takes p c piece v).lines ≡ (takes p' c piece v).lines
-    count Verdict.Passed = refl
-    count (Verdict.Failed why) = refl
+    count : (v : Result (Unit {0}) Refusal) → (takes p c piece v).lines ≡ (takes p' c piece v).lines
+    count (Ok _) = refl
+    count (Err why) = refl
 
-    lines : (v : Verdict) → puts p c piece answers v ≡ puts p' c piece answers v
-    lines Verdict.Passed =
+    lines : (v : Result (Unit {0}) Refusal) → puts p c piece answers v ≡ puts p' c piece answers v
+    lines (Ok _) =
         ap (λ (l : List ℕ). l ++ drop (whole_in (length (at_hand c piece))) answers) (lines_same (requests_of (at_hand c piece)) p p' two)
-    lines (Verdict.Failed why) = refl
+    lines (Err why) = refl
 
-    left : (v : Verdict) → Alike (takes p c piece v).page (takes p' c piece v).page
-    left Verdict.Passed = pages_alike (requests_of (at_hand c piece)) p p' two
-    left (Verdict.Failed why) = two
+    left : (v : Result (Unit {0}) Refusal) → Alike (takes p c piece v).page (takes p' c piece v).page
+    left (Ok _) = pages_alike (requests_of (at_hand c piece)) p p' two
+    left (Err why) = two
 
 -- ---- any requests
 -- from two pages

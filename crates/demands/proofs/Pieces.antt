@@ -2,6 +2,7 @@
 -- requests at hand, so its lines are that run's. Demand 2 is that of any line, and demand 3 goes from piece to piece. Where bytes are
 -- cut does not matter (`cutting`): a piece's requests and what it leaves, with what comes after, are those of both together. Assumes
 -- nothing.
+use Rattle.std.specs.Prelude.{Result, Ok, Err}
 use Prim.Native.Nat.{ℕ, ◌-◌, ◌*◌, ◌/◌, ◌%◌, ◌<◌, ◌≤◌}
 use mathlib.Core.Path.{◌≡◌, refl, sym, ap, subst, ◌∙◌}
 use mathlib.Core.List.{List, [], ◌∷◌, ◌++◌, append_assoc, append-nil}
@@ -16,7 +17,7 @@ use Rattle.page_record.specs.declared.Page.{Page}
 use Rattle.page_record.specs.Pages.{fresh_page}
 use Rattle.soundness.specs.Soundness.{sound_of}
 use Rattle.soundness.proofs.FreshPage.{fresh_sound}
-use Rattle.requests.specs.declared.{Refusal.Refusal, Answer.Answer, Verdict.Verdict}
+use Rattle.requests.specs.declared.{Refusal.Refusal, Answer.Answer}
 use Rattle.lock.specs.declared.Outcome.{Outcome}
 use Rattle.wire.specs.Answers.{line_of}
 use Rattle.wire.proofs.Buffers.{leaves_past}
@@ -58,11 +59,11 @@ module _ (p : Page) (c : Carry) (piece answers : List ℕ) (e : (taken_of p c pi
   sound_before : T (sound_of p)
   sound_before = is_true fit.sound
 
-  came : taken_of p c piece answers ≡ takes p c piece Verdict.Passed
-  came = taken_is p c piece answers Verdict.Passed (piece_passed p c piece answers e)
+  came : taken_of p c piece answers ≡ takes p c piece (Ok tt)
+  came = taken_is p c piece answers (Ok tt) (piece_passed p c piece answers e)
 
   filled : buffer_after p c piece answers ≡ lines_of p (requests_of l) ++ drop (whole_in (length l)) answers
-  filled = buffer_is p c piece answers Verdict.Passed (piece_passed p c piece answers e)
+  filled = buffer_is p c piece answers (Ok tt) (piece_passed p c piece answers e)
 
   -- its lines are those of the run of its whole requests
   line_of_lem : (k : ℕ) → k < length l / line_size
@@ -79,12 +80,12 @@ module _ (p : Page) (c : Carry) (piece answers : List ℕ) (e : (taken_of p c pi
 
 -- ---- demand 1
 -- the bytes past its lines stay, however it was judged
-stays : (p : Page) (c : Carry) (piece answers : List ℕ) (v : Verdict)
+stays : (p : Page) (c : Carry) (piece answers : List ℕ) (v : Result (Unit {0}) Refusal)
     → drop (line_size * (takes p c piece v).lines) (puts p c piece answers v) ≡ drop (line_size * (takes p c piece v).lines) answers
-stays p c piece answers Verdict.Passed =
+stays p c piece answers (Ok _) =
     let l = at_hand c piece in
-    leaves_past (whole_in (length l)) (lines_of p (requests_of l)) answers Verdict.Passed (λ e. length_whole_lines p l)
-stays p c piece answers (Verdict.Failed why) = refl
+    leaves_past (whole_in (length l)) (lines_of p (requests_of l)) answers (Ok tt) (λ e. length_whole_lines p l)
+stays p c piece answers (Err why) = refl
 
 pub demand1_piece : (p : Page) (c : Carry) (piece answers : List ℕ) → Demand1Piece p c piece answers
 unfolding taken_of buffer_after
@@ -94,7 +95,7 @@ demand1_piece p c piece answers = record {
       (first_none (applying_piece p c piece answers) tt);
   untouched = λ why e.
       let v = piece_failed p c piece answers why e in
-      (taken_is p c piece answers (Verdict.Failed why) v, buffer_is p c piece answers (Verdict.Failed why) v);
+      (taken_is p c piece answers (Err why) v, buffer_is p c piece answers (Err why) v);
   count = λ e. ap (λ (t : Taken). t.lines) (came p c piece answers e);
   lines = line_of_lem p c piece answers;
   line = λ e k h n j.
@@ -124,9 +125,9 @@ demand2_piece p c piece = demand2_run p (at_hand c piece)
 
 -- ---- demand 3
 -- a piece leaves the page that its lines leave; one that is refused has none
-takes_left : (p : Page) (c : Carry) (piece : List ℕ) (v : Verdict) → (takes p c piece v).page ≡ left by_line p (lines_in (at_hand c piece) v)
-takes_left p c piece Verdict.Passed = lines_left p (requests_of (at_hand c piece))
-takes_left p c piece (Verdict.Failed why) = refl
+takes_left : (p : Page) (c : Carry) (piece : List ℕ) (v : Result (Unit {0}) Refusal) → (takes p c piece v).page ≡ left by_line p (lines_in (at_hand c piece) v)
+takes_left p c piece (Ok _) = lines_left p (requests_of (at_hand c piece))
+takes_left p c piece (Err why) = refl
 
 -- pieces are some lines, one after the other
 record Lined (s : Between) (gs : List Given) : Type 0 where
@@ -176,7 +177,7 @@ module _ (s : Between) (g : Given) (e : (taken s g).answer ≡ Answer.Accepted) 
   abbrev p : Page
   p = s.page
 
-  came_so : taken s g ≡ takes p s.carry g.requests Verdict.Passed
+  came_so : taken s g ≡ takes p s.carry g.requests (Ok tt)
   came_so = came p s.carry g.requests g.answers e
 
   lines_so : lines_given s g ≡ lines_of p (requests_of first)
@@ -213,7 +214,7 @@ module _ (s : Between) (g : Given) (e : (taken s g).answer ≡ Answer.Accepted) 
       let requests = requests_join first more in
       let told : (past : List Event) → pieces_history s (g ∷ gs) past ≡ run_history p (requests_of (first ++ more)) past =
       λ past.
-      ap (λ (v : Verdict). pieces_history (next s g) gs (added p first past v)) (piece_passed p s.carry g.requests g.answers e)
+      ap (λ (v : Result (Unit {0}) Refusal). pieces_history (next s g) gs (added p first past v)) (piece_passed p s.carry g.requests g.answers e)
       ∙ rest.history (run_history p (requests_of first) past)
       ∙ happened_on by_line (requests_of left) mid p (requests_of first) past (lines_left p (requests_of first))
       ∙ ap (λ (qs : List (List ℕ)). run_history p qs past) (sym requests) in
@@ -298,7 +299,7 @@ whole_requests p gs sound all whole =
     record {
       finish = (cutting (begun p) gs ready all).finish.1 (ap (λ (z : List ℕ). length z % line_size) same ∙ whole);
       run = λ answers few room.
-          let v : run_verdict p (length l) (length answers) ≡ Verdict.Passed =
+          let v : run_verdict p (length l) (length answers) ≡ (Ok tt) =
           passed (record { sound = to_true (sound_of p) sound; whole = whole; few = few; room = omega arith }) in
           let page = t.page ∙ ap (λ (z : List ℕ). page_after p (requests_of z)) same in
           let lines = t.lines ∙ ap (λ (z : List ℕ). lines_of p (requests_of z)) same in (
@@ -313,7 +314,7 @@ pub refused_between : (s : Between) (before : List Given) (g : Given) (after : L
 refused_between s [] g after why e =
     let p = s.page in
     let v = piece_failed p s.carry g.requests g.answers why e in
-    let came = taken_is p s.carry g.requests g.answers (Verdict.Failed why) v in
+    let came = taken_is p s.carry g.requests g.answers (Err why) v in
     let same : next s g ≡ s = ap (λ (t : Taken). record { page = t.page; carry = t.carry }) came in
     record {
       lines =
@@ -321,9 +322,9 @@ refused_between s [] g after why e =
           ∙ ap (λ (x : Between). lines_joined x after) same;
       left = ap (λ (x : Between). after_pieces x after) same;
       history = λ past.
-          ap (λ (w : Verdict). pieces_history (next s g) after (added p (at_hand s.carry g.requests) past w)) v
+          ap (λ (w : Result (Unit {0}) Refusal). pieces_history (next s g) after (added p (at_hand s.carry g.requests) past w)) v
           ∙ ap (λ (x : Between). pieces_history x after past) same;
-      answers = buffer_is p s.carry g.requests g.answers (Verdict.Failed why) v;
+      answers = buffer_is p s.carry g.requests g.answers (Err why) v;
     }
 refused_between s (b ∷ before) g after why e =
     let u = refused_between (next s b) before g after why e in
@@ -350,7 +351,7 @@ never_refused s (g ∷ gs) ready within =
       room = omega (arith, (valid c v).few, within.0, within.1);
     } in
     let e : (taken s g).answer ≡ Answer.Accepted =
-    ap (λ (t : Taken). t.answer) (taken_is s.page c g.requests g.answers Verdict.Passed (passes fit)) in
+    ap (λ (t : Taken). t.answer) (taken_is s.page c g.requests g.answers (Ok tt) (passes fit)) in
     (e, never_refused (next s g) gs (ready_next s g e) within.2)
 
 -- so bytes of any length can be taken

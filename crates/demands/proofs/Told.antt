@@ -1,6 +1,7 @@
 -- What the history tells of a page, step by step: counts, storage, the loader and its bucket, the exclusive holder's bucket, the value
 -- that it keeps, and the values handed out. Each step keeps it (one entry for each number), and a refusal changes neither page nor
 -- history's sums. Assumes nothing.
+use Rattle.std.specs.Prelude.{Option, Some, None, Result, Ok, Err}
 use Prim.Native.Nat.{ℕ, ◌+◌, ◌≤◌, ◌<◌}
 use mathlib.Core.Path.{◌≡◌, refl, sym, ◌∙◌}
 use mathlib.Core.Bool.{Bool, true, false, not, cond, ◌&&◌}
@@ -12,7 +13,7 @@ use lib.ListN.{length}
 use Rattle.laws.specs.Lists.{among}
 use Rattle.laws.proofs.Tests.{to_true, to_false, and_iff}
 use Rattle.laws.proofs.Pick.{Below, ◌&◌, pick}
-use Rattle.kinds.specs.declared.{Bucket.Bucket, Count.Count, Storage.Storage, MaybeBucket.MaybeBucket, Reader.Reader}
+use Rattle.kinds.specs.declared.{Bucket.Bucket, Count.Count, Reader.Reader}
 use Rattle.kinds.specs.declared.{Phase.Phase, ExcState.ExcState, LoadingState.LoadingState}
 use Rattle.kinds.specs.Limits.{buckets, capacity}
 use Rattle.readers.specs.Listed.{live, find_in}
@@ -28,7 +29,7 @@ use Rattle.soundness.proofs.Facts.{Sound}
 use Rattle.soundness.proofs.Shapes.{rules_of, loads_alone}
 use Rattle.soundness.proofs.Tested.{facts}
 use Rattle.soundness.proofs.Known.{known, listed_counted}
-use Rattle.requests.specs.declared.{Request.Request, Answer.Answer, Verdict.Verdict, Refusal.Refusal}
+use Rattle.requests.specs.declared.{Request.Request, Answer.Answer, Refusal.Refusal}
 use Rattle.requests.specs.Premises.{Passes, verdict}
 use Rattle.requests.specs.Requests.{formal, judged, past_last}
 use Rattle.requests.proofs.Verdicts.{passed}
@@ -53,9 +54,9 @@ Kept start past e = (exc_value e ≡ last_put start past) × (exc_value e ≡ la
 -- of the counts, of storage and of the loader: where it has a bucket, the latest 13 named it, and since the latest 11 or 12; where it
 -- has none, there was no 13 since. And of the exclusive holder, where there is one: its bucket, or that it has none; and what it keeps,
 -- where it has the page out
-pub record Told (start : Start) (cs : List Count) (s : Storage) (e : ExcState) (l : LoadingState) (past : List Event) : Type 0 where
+pub record Told (start : Start) (cs : List Count) (s : Option ℕ) (e : ExcState) (l : LoadingState) (past : List Event) : Type 0 where
   pub balance : (b : ℕ) → number_at cs b + departures start b past ≡ start.counts b + arrivals b past
-  pub stored : s ≡ cond (last_withdrew start past) Storage.Out (Storage.In (last_put start past))
+  pub stored : s ≡ cond (last_withdrew start past) None (Some (last_put start past))
   pub counted : T (has_bucket (loading_bucket l)) → last_counted start past ≡ loading_bucket l
   pub since : T (not (no_load l)) → counted_since start past ≡ has_bucket (loading_bucket l)
   pub edited : T (not (no_exc e)) → editor_named start past ≡ exc_bucket e
@@ -66,12 +67,12 @@ abbrev pub ToldOf : Start → Head → List Event → Type 0
 ToldOf start h past = Told start h.ref_counts h.storage h.exc_state h.loading_state past
 
 -- what is stored was last put in
-pub put_in : (start : Start) (s : Storage) (past : List Event)
-    → s ≡ cond (last_withdrew start past) Storage.Out (Storage.In (last_put start past)) → (v : ℕ) → s ≡ Storage.In v → v
+pub put_in : (start : Start) (s : Option ℕ) (past : List Event)
+    → s ≡ cond (last_withdrew start past) None (Some (last_put start past)) → (v : ℕ) → s ≡ Some v → v
     ≡ last_put start past
 put_in start s past told v e = go (last_withdrew start past) (sym e ∙ told)
   where
-    go : (t : Bool) → Storage.In v ≡ cond t Storage.Out (Storage.In (last_put start past)) → v ≡ last_put start past
+    go : (t : Bool) → Some v ≡ cond t None (Some (last_put start past)) → v ≡ last_put start past
     go true f = absurd (let z : ◌≡◌ {A = ℕ} 0 1 = cc in omega arith)
     go false f = cc
 
@@ -126,7 +127,7 @@ module _ (start : Start) (h : Head) (l : List Reader) (b : Bucket) (clean value 
       rw f.equal at (listed_counted s (place_of (find_in l (reader phase b))) f.inside)
 
   -- a withdrawal hands out what was last put in
-  was_put : (v : ℕ) → h.storage ≡ Storage.In v → v ≡ last_put start past
+  was_put : (v : ℕ) → h.storage ≡ Some v → v ≡ last_put start past
   was_put = put_in start h.storage past told.stored
 
   -- no count changes, nothing is handed out
@@ -176,7 +177,7 @@ module _ (start : Start) (h : Head) (l : List Reader) (b : Bucket) (clean value 
       → ((x : ℕ) → number_at cs x + departures start x (took n) ≡ start.counts x + arrivals x (took n))
       → (T (not (no_exc e)) → editor_named start (took n) ≡ exc_bucket e)
       → (T (is_editing e) → ⊥)
-      → Told start cs (Storage.In value) e h.loading_state (took n)
+      → Told start cs (Some value) e h.loading_state (took n)
   puts n t balance edited gone =
       let u = simp and_iff at t in
       let puts = to_true (among putting_in n) u.0.0.0 in
@@ -300,21 +301,21 @@ module _ (start : Start) (h : Head) (l : List Reader) (b : Bucket) (clean value 
   }
 
   -- a holder leaves its bucket, if it has one: it is counted there
-  left_balance : (m : MaybeBucket) → T (valid_bucket m) → ((b : ℕ) → b < buckets → ref_at m b ≤ number_at h.ref_counts b)
+  left_balance : (m : Option Bucket) → T (valid_bucket m) → ((b : ℕ) → b < buckets → ref_at m b ≤ number_at h.ref_counts b)
       → (x : ℕ)
       → number_at (lower_if m h.ref_counts) x + (ref_at m x + departures start x past) ≡ start.counts x + arrivals x past
-  left_balance MaybeBucket.None v refs x = omega (arith, told.balance x)
-  left_balance (MaybeBucket.At a) v refs x =
+  left_balance None v refs x = omega (arith, told.balance x)
+  left_balance (Some a) v refs x =
       let inside : a.0 < buckets = ltb→lt a.0 buckets v in
       let j : a.0 < length h.ref_counts = omega (arith, s.four) in
-      let here : ref_at (MaybeBucket.At a) a.0 ≡ 1 = simp (eq-eqb a.0 a.0 refl) in
+      let here : ref_at (Some a) a.0 ≡ 1 = simp (eq-eqb a.0 a.0 refl) in
       let some : 1 ≤ number_at h.ref_counts a.0 = omega (arith, refs a.0 inside) in
       omega (arith, number_lower h.ref_counts a.0 x j some, told.balance x)
 
   -- the loader's, if it has one, is the one that the latest 13 named
-  loader_named : (m n : MaybeBucket) (x : ℕ) → (T (has_bucket m) → n ≡ m) → cond (has_bucket m) (ref_at n x) 0 ≡ ref_at m x
-  loader_named MaybeBucket.None n x named = refl
-  loader_named (MaybeBucket.At a) n x named = rw (named tt)
+  loader_named : (m n : Option Bucket) (x : ℕ) → (T (has_bucket m) → n ≡ m) → cond (has_bucket m) (ref_at n x) 0 ≡ ref_at m x
+  loader_named None n x named = refl
+  loader_named (Some a) n x named = rw (named tt)
 
   -- the exclusive holder's is the editor's of the history
   exc_left : Named → (x : ℕ)
@@ -403,14 +404,14 @@ module _ (start : Start) (p : Page) (q : Request) (past : List Event) where
   st = step_at (head_of p) q (look_for (live p.readers) (sought_of q)) (leb capacity p.readers.len)
 
   -- a request that is judged well formed
-  decided_tells : Sound (head_of p) (live p.readers) → judged q ≡ Verdict.Passed → ToldOf start (head_of p) past
-      → ToldOf start (head_of (stepped p q Verdict.Passed).page) (record { request = q; answer = (stepped p q Verdict.Passed).answer } ∷ past)
+  decided_tells : Sound (head_of p) (live p.readers) → judged q ≡ Ok tt → ToldOf start (head_of p) past
+      → ToldOf start (head_of (stepped p q (Ok tt)).page) (record { request = q; answer = (stepped p q (Ok tt)).answer } ∷ past)
   unfolding decide_of judged
   decided_tells sound well told = go (verdict st.premises) refl
     where
-      go : (v : Verdict) → verdict st.premises ≡ v
+      go : (v : Result (Unit {0}) Refusal) → verdict st.premises ≡ v
           → ToldOf start (settled (head_of p) st v).head (record { request = q; answer = (settled (head_of p) st v).answer } ∷ past)
-      go Verdict.Passed f =
+      go (Ok _) f =
           let l = live p.readers in
           let full = leb capacity p.readers.len in
           let inside = (formed q well).bucket in
@@ -419,17 +420,17 @@ module _ (start : Start) (p : Page) (q : Request) (past : List Event) where
           (entries start (head_of p) l q.bucket q.clean q.value full past sound inside told)
           q.step (step_below q.step known)
           (passed st.premises f)
-      go (Verdict.Failed why) f = refused_tells start (head_of p) past q why told
+      go (Err why) f = refused_tells start (head_of p) past q why told
 
   -- any request on a sound page
   pub step_tells : T (sound_of p) → ToldOf start (head_of p) past → ToldOf start (head_of (step_of p q).page) (event p q ∷ past)
   unfolding step_of
   step_tells sound told = rw (to_true (sound_of p) sound) (go (judged q) refl)
     where
-      go : (v : Verdict) → judged q ≡ v
+      go : (v : Result (Unit {0}) Refusal) → judged q ≡ v
           → ToldOf start (head_of (stepped p q v).page) (record { request = q; answer = (stepped p q v).answer } ∷ past)
-      go Verdict.Passed e = decided_tells (facts p sound).parts e told
-      go (Verdict.Failed why) e = refused_tells start (head_of p) past q why told
+      go (Ok _) e = decided_tells (facts p sound).parts e told
+      go (Err why) e = refused_tells start (head_of p) past q why told
 
 -- ---- at the start nothing has happened
 pub start_told : (p : Page) → T (sound_of p) → ToldOf (start_of p) (head_of p) []
@@ -443,10 +444,10 @@ start_told p sound = record {
   handed = tt;
 }
   where
-    as_kept : (s : Storage)
-        → s ≡ cond (not (is_stored s)) Storage.Out (Storage.In (cond (is_stored s) (value_of s) (exc_value p.exc_state)))
-    as_kept Storage.Out = refl
-    as_kept (Storage.In v) = refl
+    as_kept : (s : Option ℕ)
+        → s ≡ cond (not (is_stored s)) None (Some (cond (is_stored s) (value_of s) (exc_value p.exc_state)))
+    as_kept None = refl
+    as_kept (Some v) = refl
 
 -- .. and any value will do where the page is out with a loader
 pub start_unknown : (p : Page) → T (sound_of p) → T (not (no_load p.loading_state)) → (v : ℕ) → ToldOf (start_with v p) (head_of p) []
@@ -464,7 +465,7 @@ start_unknown p sound loads v =
       handed = tt;
     }
   where
-    go : no_load p.loading_state ≡ false → T (storage_some_invariant p.storage p.exc_state p.loading_state) → (s : Storage)
-        → p.storage ≡ s → s ≡ cond (not (is_stored s)) Storage.Out (Storage.In v)
-    go some rule Storage.Out e = refl
-    go some rule (Storage.In w) e = absurd (rw (e, some) at rule)
+    go : no_load p.loading_state ≡ false → T (storage_some_invariant p.storage p.exc_state p.loading_state) → (s : Option ℕ)
+        → p.storage ≡ s → s ≡ cond (not (is_stored s)) None (Some v)
+    go some rule None e = refl
+    go some rule (Some w) e = absurd (rw (e, some) at rule)

@@ -2,8 +2,8 @@
 -- came, and a 13 named its bucket, if it has one; a 4 named the exclusive holder's, if it has one, and an 8 handed out what one that is
 -- Obtained keeps. `start_of` says the same in fields: every word of a history is as if these stood at its end (`as_if_before`), but that they
 -- are no arrivals. Whether each was really asked nobody knows; they are what the words look at.
-use Rattle.std.specs.Prelude.{ℕ, ◌≡◌, false, List, [], ◌∷◌, ◌++◌}
-use Rattle.kinds.specs.declared.{Bucket.Bucket, MaybeBucket.MaybeBucket, ExcState.ExcState, LoadingState.LoadingState}
+use Rattle.std.specs.Prelude.{ℕ, Option, Some, None, ◌≡◌, false, List, [], ◌∷◌, ◌++◌}
+use Rattle.kinds.specs.declared.{Bucket.Bucket, ExcState.ExcState, LoadingState.LoadingState}
 use Rattle.page_record.specs.declared.Page.{Page}
 use Rattle.page_record.specs.Holders.{loading_bucket}
 use Rattle.page_record.specs.Pages.{number_at}
@@ -24,9 +24,9 @@ abbrev pub handing : ℕ → ℕ → Event
 handing step value = record { request = (plainly step).request; answer = Answer.Withdrew value }
 
 -- it named the bucket, if there is one
-abbrev pub named : ℕ → MaybeBucket → List Event
-named step MaybeBucket.None = []
-named step (MaybeBucket.At bucket) = granted step bucket ∷ []
+abbrev pub named : ℕ → Option Bucket → List Event
+named step None = []
+named step (Some bucket) = granted step bucket ∷ []
 
 abbrev pub loader_came : LoadingState → List Event
 loader_came LoadingState.None = []
@@ -51,8 +51,8 @@ bare_start p = record {
   counts = number_at p.ref_counts;
   value = put_before p;
   out = false;
-  loader = MaybeBucket.None;
-  editor = MaybeBucket.None;
+  loader = None;
+  editor = None;
 }
 
 -- each word of a history from this page is as if what came before stood at its end

@@ -1,8 +1,7 @@
 -- Clean means clean (RULES 9): what a clean editor puts in is what it took. Said once of anything that is asked one after the other
 -- (`Asking`): requests, and the lines of runs; and runs are their lines (`AsLines`). No page is asked to be sound: whatever is accepted
 -- was asked of a sound one.
-use Rattle.std.specs.Prelude.{ℕ, ◌≡◌, not, List, [], ◌∷◌, T}
-use Rattle.kinds.specs.declared.Storage.{Storage}
+use Rattle.std.specs.Prelude.{ℕ, Some, ◌≡◌, not, List, [], ◌∷◌, T}
 use Rattle.page_record.specs.declared.Page.{Page}
 use Rattle.page_record.specs.Holders.{is_editing, exc_clean, exc_value}
 use Rattle.requests.specs.declared.Answer.{Answer}
@@ -30,8 +29,8 @@ module _ (way : Asking) where
   -- this value is what that 8 handed out and what storage held before it; and it is in storage again
   pub record AsTaken (p : Page) (taking : way.Ask) (value : ℕ) (again : Page) : Type 0 where
     pub handed : (way.event p taking).answer ≡ Answer.Withdrew value
-    pub held : p.storage ≡ Storage.In value
-    pub holds : again.storage ≡ Storage.In value
+    pub held : p.storage ≡ Some value
+    pub holds : again.storage ≡ Some value
 
   -- wherever a clean holder takes the page, the next accepted 9, 10, 29 or 30 puts in what it took
   abbrev pub CleanMeansClean : Type 0

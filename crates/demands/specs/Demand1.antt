@@ -5,7 +5,7 @@
 -- Each table of numbers is in the words of RULES 4.1: `applying` (lock) for a step, `applying_bytes` and `applying_write` (wire) for
 -- one request read or written, `applying_run` and `applying_line` (replay) for a run and its lines. A number is given just if it is
 -- the lowest that applies (`Lowest`), and 0 just if none does.
-use Rattle.std.specs.Prelude.{ℕ, suc, ◌<◌, ◌≤◌, ◌/◌, ◌≡◌, ◌↔◌, false, List, length, drop}
+use Rattle.std.specs.Prelude.{ℕ, Ok, suc, ◌<◌, ◌≤◌, ◌/◌, ◌≡◌, ◌↔◌, false, List, length, drop}
 use Rattle.laws.specs.Tables.{first_applying, applies_in, Lowest}
 use Rattle.kinds.specs.Limits.{line_size}
 use Rattle.page_record.specs.declared.Page.{Page}
@@ -13,7 +13,6 @@ use Rattle.requests.specs.declared.{Refusal.Refusal, Answer.Answer, Request.Requ
 use Rattle.requests.specs.Answers.{answer_number}
 use Rattle.lock.specs.Step.{step_of}
 use Rattle.lock.specs.Applies.{applying}
-use Rattle.wire.specs.declared.Reading.{Reading}
 use Rattle.wire.specs.Answers.{line_of}
 use Rattle.wire.specs.Requests.{fields_of, reading_number, read_of, wrote_answer, wrote_to}
 use Rattle.wire.specs.Applies.{applying_bytes, applying_write}
@@ -38,9 +37,9 @@ pub record Demand1Read (l : List ℕ) : Type 0 where
   -- of sixteen bytes, n is given just if it is the lowest of 2, 3 and 4 that applies,
   pub given : length l ≡ line_size → (n : ℕ) → 1 ≤ n → (reading_number (read_of l) ≡ n) ↔ Lowest (applying_bytes l) n
   -- and they are a request, the one that their fields say, just if none applies
-  pub accepted : (read_of l ≡ Reading.Request (fields_of l))
+  pub accepted : (read_of l ≡ Ok (fields_of l))
       ↔ ((length l ≡ line_size) × ((n : ℕ) → applies_in (applying_bytes l) n ≡ false))
-  pub fields : (q : Request) → read_of l ≡ Reading.Request q → fields_of l ≡ q
+  pub fields : (q : Request) → read_of l ≡ Ok q → fields_of l ≡ q
 
 -- ---- any request that is written into any buffer
 pub record Demand1Write (q : Request) (buffer : List ℕ) : Type 0 where

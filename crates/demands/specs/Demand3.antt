@@ -1,7 +1,7 @@
 -- Demand 3: what holds of a page after any requests, refused ones among them, from the page that its history starts at (RULES 9).
 -- "Past the first check" means Pending2 or Obtained: a reader that is not past it is Pending.
-use Rattle.std.specs.Prelude.{ℕ, ◌+◌, ◌<◌, ◌≡◌, not, ◌||◌, List, T, length, get_or}
-use Rattle.kinds.specs.declared.{Phase.Phase, Reader.Reader, Storage.Storage, WritebackState.WritebackState}
+use Rattle.std.specs.Prelude.{ℕ, Some, None, ◌+◌, ◌<◌, ◌≡◌, not, ◌||◌, List, T, length, get_or}
+use Rattle.kinds.specs.declared.{Phase.Phase, Reader.Reader}
 use Rattle.kinds.specs.Limits.{buckets}
 use Rattle.readers.specs.Listed.{live, blank_reader}
 use Rattle.page_record.specs.declared.Page.{Page}
@@ -27,14 +27,14 @@ pub record Demand3 (start : Start) (p : Page) (past : List Event) : Type 0 where
   -- the page is out exactly when its last hand-over was a withdrawal
   pub out : is_stored p.storage ≡ not (last_withdrew start past)
   -- every value held is the one last put in, or the start's: by storage,
-  pub stored : (v : ℕ) → p.storage ≡ Storage.In v → v ≡ last_put start past
+  pub stored : (v : ℕ) → p.storage ≡ Some v → v ≡ last_put start past
   -- by a reader that has come through,
   pub read : (r : Reader) → Listed p r → (v : ℕ) → r.phase ≡ Phase.Obtained v → v ≡ last_put start past
   -- by a claimant (Claim, PendingAwaitWriteback, Pending),
   pub claimed : T (is_claim p.exc_state || is_await p.exc_state || is_pending p.exc_state)
       → exc_value p.exc_state ≡ last_put start past
   -- by the writeback,
-  pub written : (v : ℕ) → p.writeback_state ≡ WritebackState.Held v → v ≡ last_put start past
+  pub written : (v : ℕ) → p.writeback_state ≡ Some v → v ≡ last_put start past
   -- and by an editor that has the page out, which keeps what it took:
   pub kept : T (is_editing p.exc_state) → exc_value p.exc_state ≡ last_put start past
   -- that is the last value taken, too;
@@ -44,8 +44,8 @@ pub record Demand3 (start : Start) (p : Page) (past : List Event) : Type 0 where
   -- one was returned just where an 8, 11 or 12 was accepted
   pub returns : HandOuts past
   -- while the page is out nobody reads it,
-  pub unread : p.storage ≡ Storage.Out → (r : Reader) → Listed p r → (v : ℕ) → r.phase ≡ Phase.Obtained v → ⊥
+  pub unread : p.storage ≡ None → (r : Reader) → Listed p r → (v : ℕ) → r.phase ≡ Phase.Obtained v → ⊥
   -- or writes it back,
-  pub unwritten : p.storage ≡ Storage.Out → p.writeback_state ≡ WritebackState.None
+  pub unwritten : p.storage ≡ None → p.writeback_state ≡ None
   -- and once an editor has it out no reader is past the first check
   pub alone : T (is_editing p.exc_state) → (r : Reader) → Listed p r → r.phase ≡ Phase.Pending

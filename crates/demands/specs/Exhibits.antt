@@ -2,11 +2,11 @@
 -- broken alone somewhere, pages that were read and go on, each number given somewhere (15 and 16 by the samples of `image`; those of a
 -- run and of a piece apart), each number that 25 to 30 can answer by each of them, and what a clean editor and a dirty one may put in.
 -- Last, where soundness and demand 3 see nothing, under which flags a flag premise refuses.
-use Rattle.std.specs.Prelude.{ℕ, zero, suc, ◌+◌, ◌-◌, ◌*◌, Bool, true, false, not, cond, ◌&&◌, List, [], ◌∷◌, ◌++◌, map, eqb, get_or, replicate}
+use Rattle.std.specs.Prelude.{ℕ, Option, Some, None, Result, zero, suc, ◌+◌, ◌-◌, ◌*◌, Bool, true, false, not, cond, ◌&&◌, List, [], ◌∷◌, ◌++◌, map, eqb, get_or, replicate}
 use Rattle.std.specs.Bool.{beq}
 use Rattle.laws.specs.Lists.{every, among}
-use Rattle.kinds.specs.declared.{Flag.Flag, MaybeBucket.MaybeBucket, Count.Count, Storage.Storage, Phase.Phase, Reader.Reader}
-use Rattle.kinds.specs.declared.{ExcState.ExcState, LoadingState.LoadingState, WritebackState.WritebackState}
+use Rattle.kinds.specs.declared.{Flag.Flag, Count.Count, Phase.Phase, Reader.Reader}
+use Rattle.kinds.specs.declared.{ExcState.ExcState, LoadingState.LoadingState}
 use Rattle.kinds.specs.Limits.{most_requests, line_size}
 use Rattle.kinds.specs.Numbers.{flags, flag_number, exc_number, loading_number, writeback_number, phase_number}
 use Rattle.readers.specs.declared.Readers.{Readers}
@@ -16,7 +16,8 @@ use Rattle.page_record.specs.Holders.{has_bucket, exc_bucket, loading_bucket}
 use Rattle.page_record.specs.Pages.{head_of, page_of, fresh_page, head_with}
 use Rattle.rules.specs.Rules.{every_bucket}
 use Rattle.soundness.specs.Soundness.{rules, lowest_broken, sound_of}
-use Rattle.requests.specs.declared.{Request.Request, Verdict.Verdict}
+use Rattle.requests.specs.declared.Request.{Request}
+use Rattle.requests.specs.declared.Refusal.{Refusal}
 use Rattle.requests.specs.Answers.{answer_number}
 use Rattle.requests.specs.Requests.{last_step}
 use Rattle.heads.specs.Setters.{with_number}
@@ -177,20 +178,20 @@ waiting a b c d = replicate a (pending_at 0) ++ replicate b (pending_at 1) ++ re
 
 -- of a fresh page
 abbrev pub crowd : ℕ → ℕ → ℕ → ℕ → Page
-crowd a b c d = page_of (head_with (Storage.In 0) Flag.Unmapped (numbered a b c d) ExcState.None LoadingState.None WritebackState.None) (listed (waiting a b c d))
+crowd a b c d = page_of (head_with (Some 0) Flag.Unmapped (numbered a b c d) ExcState.None LoadingState.None None) (listed (waiting a b c d))
 
 -- ---- each rule is broken alone somewhere
 -- a page of these parts, with n at bucket 0 and 0 at the others; and one that nobody holds
-abbrev pub page_of_parts : Storage → Flag → ℕ → ExcState → LoadingState → WritebackState → Readers → Page
+abbrev pub page_of_parts : Option ℕ → Flag → ℕ → ExcState → LoadingState → Option ℕ → Readers → Page
 page_of_parts s f n e l w rs =
     page_of (head_with s f (with_number 0 n (fresh_page 0).ref_counts) e l w) rs
 
-abbrev pub unheld : Storage → Flag → ℕ → Readers → Page
-unheld s f n rs = page_of_parts s f n ExcState.None LoadingState.None WritebackState.None rs
+abbrev pub unheld : Option ℕ → Flag → ℕ → Readers → Page
+unheld s f n rs = page_of_parts s f n ExcState.None LoadingState.None None rs
 
 -- storage is empty, and nobody has it
 abbrev pub lost : Page
-lost = unheld Storage.Out Flag.Unmapped 0 no_readers
+lost = unheld None Flag.Unmapped 0 no_readers
 
 abbrev pub one_at : Phase → Reader
 one_at phase = record { phase = phase; bucket = record { 0 = 0 } }
@@ -201,13 +202,13 @@ one_at phase = record { phase = phase; bucket = record { 0 = 0 } }
 abbrev pub broken_pages : List Page
 broken_pages =
     lost
-    ∷ page_of_parts (Storage.In 0) Flag.Claimed 0 (ExcState.Claim MaybeBucket.None 1) LoadingState.None WritebackState.None no_readers
-    ∷ page_of_parts (Storage.In 0) Flag.Writeback 0 ExcState.None LoadingState.None (WritebackState.Held 1) no_readers
-    ∷ page_of_parts Storage.Out Flag.LoadingExcLock 0 ExcState.None (LoadingState.PendingCounted MaybeBucket.None) WritebackState.None no_readers
-    ∷ unheld (Storage.In 0) Flag.Unmapped 1 no_readers
-    ∷ page_of_parts (Storage.In 0) Flag.Available 0 (ExcState.Claim MaybeBucket.None 0) LoadingState.None WritebackState.None no_readers
-    ∷ unheld (Storage.In 0) Flag.Unmapped 1 (listed (one_at Phase.Pending2 ∷ []))
-    ∷ unheld (Storage.In 0) Flag.Unmapped 0
+    ∷ page_of_parts (Some 0) Flag.Claimed 0 (ExcState.Claim None 1) LoadingState.None None no_readers
+    ∷ page_of_parts (Some 0) Flag.Writeback 0 ExcState.None LoadingState.None (Some 1) no_readers
+    ∷ page_of_parts None Flag.LoadingExcLock 0 ExcState.None (LoadingState.PendingCounted None) None no_readers
+    ∷ unheld (Some 0) Flag.Unmapped 1 no_readers
+    ∷ page_of_parts (Some 0) Flag.Available 0 (ExcState.Claim None 0) LoadingState.None None no_readers
+    ∷ unheld (Some 0) Flag.Unmapped 1 (listed (one_at Phase.Pending2 ∷ []))
+    ∷ unheld (Some 0) Flag.Unmapped 0
     (record { items = (listed (one_at Phase.Pending2 ∷ [])).items; len = 0 })
     ∷ []
 
@@ -311,7 +312,7 @@ trials =
 -- is accepted
 abbrev pub whole_numbers : List ℕ
 whole_numbers =
-    map (λ (v : Verdict). answer_number (answer_for v))
+    map (λ (v : Result (Unit {0}) Refusal). answer_number (answer_for v))
     (run_verdict (fresh_page 0) 15 16
     ∷ run_verdict (fresh_page 0) (line_size * (most_requests + 1)) (line_size * (most_requests + 1))
     ∷ run_verdict (fresh_page 0) 16 15
@@ -328,7 +329,7 @@ claims len first = record { bytes = first ∷ replicate 14 0; len = len }
 
 abbrev pub piece_numbers : List ℕ
 piece_numbers =
-    map (λ (v : Verdict). answer_number (answer_for v))
+    map (λ (v : Result (Unit {0}) Refusal). answer_number (answer_for v))
     (piece_verdict lost (claims 16 0) (piece_size + 1) 0
     ∷ piece_verdict (fresh_page 0) (claims 16 0) (piece_size + 1) 0
     ∷ piece_verdict (fresh_page 0) (claims 0 1) 0 0
@@ -348,8 +349,8 @@ end_numbers = map (λ (c : Carry). answer_number (finish_of c)) (claims 0 0 ∷ 
 abbrev pub full_claimed : Page
 full_claimed =
     page_of
-    (head_with (Storage.In 0) Flag.Claimed (numbered 65 64 64 64) (ExcState.Claim (MaybeBucket.At (record { 0 = 0 })) 0) LoadingState.None
-    WritebackState.None)
+    (head_with (Some 0) Flag.Claimed (numbered 65 64 64 64) (ExcState.Claim (Some (record { 0 = 0 })) 0) LoadingState.None
+    None)
     (listed (waiting 64 64 64 64))
 
 -- the numbers that 25 to 30 can answer, and no other (`returns_answer`): they are known steps, take no bucket and ask for no flag
@@ -405,8 +406,8 @@ every_return_shown = every answered returns && every (λ n. every (row_for n) (m
 abbrev pub full_out : Page
 full_out =
     page_of
-    (head_with Storage.Out Flag.ExcLockClean (numbered 65 64 64 64) (ExcState.Obtained (MaybeBucket.At (record { 0 = 0 })) true 5)
-    LoadingState.None WritebackState.None)
+    (head_with None Flag.ExcLockClean (numbered 65 64 64 64) (ExcState.Obtained (Some (record { 0 = 0 })) true 5)
+    LoadingState.None None)
     (listed (waiting 64 64 64 64))
 
 -- a clean editor puts in what it took, 5, and no other value, with a bucket or without, and after 18 gave it one; a dirty one puts in

@@ -1,13 +1,13 @@
 -- What happened to a page, and what can be told from it, in the words of RULES 9. A history is the list of requests with the
 -- answers that were given, the newest first, so that "the latest" is the first one found; and it starts from a page.
-use Rattle.std.specs.Prelude.{ℕ, ◌+◌, ◌≡◌, Bool, true, false, cond, not, ◌&&◌, List, [], ◌∷◌, ◌++◌, T, eqb, length}
+use Rattle.std.specs.Prelude.{ℕ, Option, Some, None, Result, Ok, Err, ◌+◌, ◌≡◌, Bool, true, false, cond, not, ◌&&◌, List, [], ◌∷◌, ◌++◌, T, eqb, length}
 use Rattle.laws.specs.Lists.{among}
-use Rattle.kinds.specs.declared.MaybeBucket.{MaybeBucket}
 use Rattle.page_record.specs.declared.Page.{Page}
 use Rattle.page_record.specs.Holders.{is_stored, value_of, has_bucket, exc_bucket, exc_value, loading_bucket}
 use Rattle.page_record.specs.Pages.{number_at}
 use Rattle.page_record.specs.References.{ref_at}
-use Rattle.requests.specs.declared.{Request.Request, Answer.Answer, Verdict.Verdict}
+use Rattle.requests.specs.declared.{Request.Request, Answer.Answer}
+use Rattle.requests.specs.declared.Refusal.{Refusal}
 use Rattle.requests.specs.Answers.{answer_number, answer_value, withdraws}
 use Rattle.lock.specs.Words.{raising, leaving, naming, giving_back, putting_in, handing_out, fetching}
 use Rattle.lock.specs.Step.{step_of}
@@ -15,6 +15,7 @@ use Rattle.wire.specs.Answers.{line_of}
 use Rattle.wire.specs.Requests.{fields_of}
 use Rattle.replay.specs.Turns.{turn_of}
 use Rattle.replay.specs.Run.{requests_of, run_verdict, ran_of}
+use Rattle.kinds.specs.declared.Bucket.{Bucket}
 
 -- a request and its answer
 pub record Event : Type 0 where
@@ -75,12 +76,12 @@ after_runs p [] = p
 after_runs p (g ∷ gs) = after_runs (ran_of p g.requests g.answers).page gs
 
 -- a run that is refused as a whole has no lines
-abbrev pub lines_in : List ℕ → Verdict → List (List ℕ)
-lines_in requests Verdict.Passed = requests_of requests
-lines_in requests (Verdict.Failed why) = []
+abbrev pub lines_in : List ℕ → Result (Unit {0}) Refusal → List (List ℕ)
+lines_in requests (Ok _) = requests_of requests
+lines_in requests (Err why) = []
 
 -- a run adds its lines
-abbrev pub added : Page → List ℕ → List Event → Verdict → List Event
+abbrev pub added : Page → List ℕ → List Event → Result (Unit {0}) Refusal → List Event
 added p requests past v = run_history p (lines_in requests v) past
 
 abbrev pub runs_history : Page → List Given → List Event → List Event
@@ -114,8 +115,8 @@ pub record Start : Type 0 where
   pub counts : ℕ → ℕ
   pub value : ℕ
   pub out : Bool
-  pub loader : MaybeBucket
-  pub editor : MaybeBucket
+  pub loader : Option Bucket
+  pub editor : Option Bucket
 
 -- what was put in last, as a page has it: storage's value, else the one that its exclusive holder keeps. For a page that is out with a
 -- loader it is not known, and any value will do (`demand3_unknown`)
@@ -159,9 +160,9 @@ arrivals b (e ∷ past) = cond (accepted raising e && names_bucket b e) 1 0 + ar
 
 module _ (start : Start) where
   -- the bucket that the latest accepted 13 named
-  abbrev pub last_counted : List Event → MaybeBucket
+  abbrev pub last_counted : List Event → Option Bucket
   last_counted [] = start.loader
-  last_counted (e ∷ past) = cond (accepted (13 ∷ []) e) (MaybeBucket.At e.request.bucket) (last_counted past)
+  last_counted (e ∷ past) = cond (accepted (13 ∷ []) e) (Some e.request.bucket) (last_counted past)
 
   -- a 13 was accepted since the latest accepted 11 or 12; before the start, just if there is a loader that has a bucket
   abbrev pub counted_since : List Event → Bool
@@ -169,11 +170,11 @@ module _ (start : Start) where
   counted_since (e ∷ past) = cond (accepted (13 ∷ []) e) true (cond (accepted fetching e) false (counted_since past))
 
   -- the editor's bucket: the one that the latest accepted 4 or 18 named, unless a 3 was accepted since
-  abbrev pub editor_named : List Event → MaybeBucket
+  abbrev pub editor_named : List Event → Option Bucket
   editor_named [] = start.editor
   editor_named (e ∷ past) =
-      cond (accepted naming e) (MaybeBucket.At e.request.bucket)
-      (cond (accepted (3 ∷ []) e) MaybeBucket.None (editor_named past))
+      cond (accepted naming e) (Some e.request.bucket)
+      (cond (accepted (3 ∷ []) e) None (editor_named past))
 
   -- departures from b: accepted 20, 21, 22 naming b; accepted 17 where a 13 was accepted since the latest accepted 11 or 12, and the
   -- latest 13 named b; and accepted 25, 29 and 30 where b is the editor's bucket

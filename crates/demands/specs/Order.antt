@@ -1,13 +1,13 @@
 -- The order of the readers is not to be seen in what is answered (RULES 1.4). To be compared with: the same lock on a list that closes the
 -- gap, where the readers behind a removed one move up. Its requests are judged and decided as ever; what it does to the list is its own.
-use Rattle.std.specs.Prelude.{ℕ, ◌+◌, ◌≡◌, cond, List, [], ◌∷◌, ◌++◌, T, take, drop, set}
+use Rattle.std.specs.Prelude.{ℕ, Result, Ok, Err, ◌+◌, ◌≡◌, cond, List, [], ◌∷◌, ◌++◌, T, take, drop, set}
 use Rattle.kinds.specs.declared.Reader.{Reader}
 use Rattle.readers.specs.Listed.{live, listed}
 use Rattle.page_record.specs.declared.Page.{Page}
 use Rattle.page_record.specs.Pages.{head_of, page_of}
 use Rattle.soundness.specs.Soundness.{sound_of}
 use Rattle.census.specs.Census.{census_of}
-use Rattle.requests.specs.declared.{Refusal.Refusal, Verdict.Verdict, Request.Request}
+use Rattle.requests.specs.declared.{Refusal.Refusal, Request.Request}
 use Rattle.requests.specs.Requests.{judged}
 use Rattle.heads.specs.declared.{Edit.Edit, Decision.Decision}
 use Rattle.lock.specs.declared.Outcome.{Outcome}
@@ -34,9 +34,9 @@ closing (Edit.Remove place) l = closed place l
 abbrev pub decided_closing : List Reader → Decision → Outcome
 decided_closing l d = record { answer = d.answer; page = page_of d.head (listed (closing d.edit l)) }
 
-abbrev pub stepped_closing : Page → Request → Verdict → Outcome
-stepped_closing p q Verdict.Passed = decided_closing (live p.readers) (decided_on (head_of p) (live p.readers) q)
-stepped_closing p q (Verdict.Failed why) = refused_by p why
+abbrev pub stepped_closing : Page → Request → Result (Unit {0}) Refusal → Outcome
+stepped_closing p q (Ok _) = decided_closing (live p.readers) (decided_on (head_of p) (live p.readers) q)
+stepped_closing p q (Err why) = refused_by p why
 
 abbrev pub step_closing : Page → Request → Outcome
 step_closing p q = cond (sound_of p) (stepped_closing p q (judged q)) (refused_by p Refusal.Unsound)

@@ -1,8 +1,7 @@
 -- Requests in pieces (RULES 6.1): demands 1 to 3, and that it doesn't matter where their bytes are cut. What one piece comes to is
 -- `taken_of` and `buffer_after` (pieces), the bytes at hand are `at_hand`; the tables of numbers are `applying_piece` and `applying_end`.
-use Rattle.std.specs.Prelude.{ℕ, suc, ◌-◌, ◌*◌, ◌/◌, ◌%◌, ◌<◌, ◌≤◌, ◌≡◌, ◌↔◌, false, List, [], ◌∷◌, ◌++◌, T, length, take, drop, replicate}
+use Rattle.std.specs.Prelude.{ℕ, Option, Ok, suc, ◌-◌, ◌*◌, ◌/◌, ◌%◌, ◌<◌, ◌≤◌, ◌≡◌, ◌↔◌, false, List, [], ◌∷◌, ◌++◌, T, length, take, drop, replicate}
 use Rattle.laws.specs.Tables.{applies_in, Lowest}
-use Rattle.kinds.specs.declared.Storage.{Storage}
 use Rattle.kinds.specs.Limits.{line_size, most_requests}
 use Rattle.page_record.specs.declared.Page.{Page}
 use Rattle.page_record.specs.Pages.{fresh_page}
@@ -11,7 +10,6 @@ use Rattle.requests.specs.declared.{Refusal.Refusal, Answer.Answer, Request.Requ
 use Rattle.requests.specs.Answers.{answer_number}
 use Rattle.lock.specs.Moves.{answer_of}
 use Rattle.lock.specs.Allowed.{Allowed}
-use Rattle.wire.specs.declared.Reading.{Reading}
 use Rattle.wire.specs.Answers.{line_of}
 use Rattle.wire.specs.Requests.{read_of}
 use Rattle.replay.specs.Turns.{turn_of}
@@ -113,8 +111,8 @@ pub record Demand1Finish (c : Carry) : Type 0 where
 -- ---- demand 2, line by line: the page that a line is answered from is the one that the requests before it left
 abbrev pub Demand2Piece : Type 0
 Demand2Piece =
-    (p : Page) (c : Carry) (piece : List ℕ) (k : ℕ) (q : Request) → read_of (line_at k (at_hand c piece)) ≡ Reading.Request q
-    → (p' : Page) (out : Storage)
+    (p : Page) (c : Carry) (piece : List ℕ) (k : ℕ) (q : Request) → read_of (line_at k (at_hand c piece)) ≡ Ok q
+    → (p' : Page) (out : Option ℕ)
     → (turn_of (page_at k p (at_hand c piece)) (line_at k (at_hand c piece)) ≡ record { answer = answer_of out; page = p' })
     ↔ Allowed (page_at k p (at_hand c piece)) q p' out
 

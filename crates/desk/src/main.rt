@@ -21,12 +21,12 @@ fn read_full<R: Read>(input: &mut R, buffer: &mut [u8]) -> usize
     ensures within { result ≤ length buffer.old }
     ensures bytes { Consumes (R.remaining input.old) (R.remaining input.new) (take result buffer.new) }
 {
-    let mut done: usize = 0;
+    // No `read_exact`: it doesn't say how many bytes came where the input ends before the buffer is full.
+    let mut done = 0;
     while done < buffer.len() {
         match input.read(&mut buffer[done..]) {
-            Ok(0) => return done,
+            Ok(0) | Err(_) => break,
             Ok(n) => done += n,
-            Err(_) => return done,
         }
     }
     done
@@ -44,15 +44,13 @@ fn read_on(input: &mut impl Read) -> usize
 fn count_rest(input: &mut impl Read) -> usize
     ensures { result ≤ more * longest }
 {
-    let mut counted: usize = 0;
-    let mut left = MORE;
-    while 0 < left {
+    let mut counted = 0;
+    for _ in 0..MORE {
         let got = read_on(input);
         counted += got;
         if got < LONGEST {
-            return counted;
+            break;
         }
-        left -= 1;
     }
     counted
 }
@@ -61,12 +59,13 @@ fn main(rt: HostRuntime) {
     let mut input = rt.stdin();
     let mut kept = [0u8; LONGEST];
     let n = read_full(&mut input, &mut kept);
-    let mut total = n;
-    if n == LONGEST {
-        total += count_rest(&mut input);
-    }
+    let rest = if n == LONGEST {
+        count_rest(&mut input)
+    } else {
+        0
+    };
     let mut out = [0u8; LONGEST];
-    let length = replay::reply(&kept[..n], total, &mut out);
+    let length = replay::reply(&kept[..n], n + rest, &mut out);
     if rt.stdout().write_all(&out[..length]).is_err() {
         let _ = rt
             .stderr()

@@ -1,114 +1,91 @@
-// The input: the head and the payload of one operation, within what may be read in all.
-ghost use Rattle.std.specs.Prelude.{◌≡◌, ◌-◌, ◌≤◌, length, take};
-ghost use Rattle.std.specs.Io.KnownBytes.{Consumes};
-ghost use Rattle.kinds.specs.Limits.{line_size};
+// The input: the operations, each a head and a payload.
+ghost use Rattle.std.specs.Prelude.{◌≤◌, length, IfOk, IfSome};
 
-use crate::fields::value_at;
 use kinds::LINE;
-use std::io::Read;
-use wire::VALUE;
-
-// The number of the last operation that is listed.
-const LAST: u64 = 13;
-
-// What stands for an operation where the input ended.
-const ENDED: u64 = 0;
-
-// What stands for an operation where the input ended inside it, or it isn't one.
-const CUT: u64 = 255;
+use std::io::{Read, Take};
+use wire::{VALUE, u64_at};
 
 // What a number of four bytes is below.
 const FOUR_BYTES: u64 = 4_294_967_296;
 
-// An operation whose payload is in, and how many bytes may be read after it: none where nothing is to come.
+// The operations, in the order of their numbers, from 1 on.
 #[derive(Clone, Copy)]
-pub struct Order {
-    pub kind: u64,
-    pub length: usize,
-    pub a: u64,
-    pub left: usize,
+pub enum Operation {
+    Fresh,
+    Step,
+    Lend,
+    Run,
+    Write,
+    Look,
+    Put,
+    Restore,
+    Keep,
+    Take,
+    Finish,
+    Carry,
+    StepByTable,
 }
 
-// Nothing is to come.
-fn stop(kind: u64) -> Order
-    ensures empty { result.length ≡ 0 }
-    ensures last { result.left ≡ 0 }
-{
-    Order {
-        kind,
-        length: 0,
-        a: 0,
-        left: 0,
-    }
-}
+// The input ended inside an operation, or has none that is listed.
+#[derive(Clone, Copy)]
+pub struct Broken;
 
-// Reads until the buffer is full, the input ends or a read fails; answers how many bytes came. They stand at its start.
-fn read_full<R: Read>(input: &mut R, buffer: &mut [u8]) -> usize
-    ensures within { result ≤ length buffer.old }
-    ensures bytes { Consumes (R.remaining input.old) (R.remaining input.new) (take result buffer.new) }
-{
-    let mut done: usize = 0;
-    while done < buffer.len() {
-        match input.read(&mut buffer[done..]) {
-            Ok(0) => return done,
-            Ok(n) => done += n,
-            Err(_) => return done,
+impl TryFrom<u64> for Operation {
+    type Error = Broken;
+
+    fn try_from(number: u64) -> Result<Operation, Broken> {
+        match number {
+            1 => Ok(Operation::Fresh),
+            2 => Ok(Operation::Step),
+            3 => Ok(Operation::Lend),
+            4 => Ok(Operation::Run),
+            5 => Ok(Operation::Write),
+            6 => Ok(Operation::Look),
+            7 => Ok(Operation::Put),
+            8 => Ok(Operation::Restore),
+            9 => Ok(Operation::Keep),
+            10 => Ok(Operation::Take),
+            11 => Ok(Operation::Finish),
+            12 => Ok(Operation::Carry),
+            13 => Ok(Operation::StepByTable),
+            _ => Err(Broken),
         }
     }
-    done
 }
 
-// Reads until the buffer is full, the input ends, a read fails or `left` bytes have come; answers how many came.
-fn read_within(input: &mut impl Read, buffer: &mut [u8], left: usize) -> usize
-    ensures within { result ≤ length buffer.old }
-    ensures most { result ≤ left }
-{
-    if left < buffer.len() {
-        return read_full(input, &mut buffer[..left]);
-    }
-    read_full(input, buffer)
+// An operation whose payload is in, and its number `a`.
+#[derive(Clone, Copy)]
+pub struct Order<'a> {
+    pub operation: Operation,
+    pub a: u64,
+    pub payload: &'a [u8],
 }
 
-// The head of the next operation. Its number is read with the three bytes above it: where they aren't zero, it is too high to
-// be listed.
-fn head(input: &mut impl Read, left: usize) -> Order
-    ensures { result.left ≤ left - line_size }
+// The next operation, of which the payload is read into what is lent for it; none where the input ends before its head. Its number
+// is read with the three bytes above it: where they aren't zero, it is too high to be listed.
+pub(crate) fn next<'a, R: Read>(
+    input: &mut Take<R>,
+    space: &'a mut [u8],
+) -> Result<Option<Order<'a>>, Broken>
+    ensures within { IfOk result (λ found. IfSome found (λ order. length order.payload.now ≤ length space.old)) }
 {
-    let mut bytes = [0u8; LINE];
-    let got = read_within(input, &mut bytes, left);
-    if got == 0 {
-        return stop(ENDED);
+    let before = input.limit();
+    let mut head = [0u8; LINE];
+    if input.read_exact(&mut head).is_err() {
+        return if input.limit() == before {
+            Ok(None)
+        } else {
+            Err(Broken)
+        };
     }
-    if got < LINE {
-        return stop(CUT);
-    }
-    let numbers = value_at(&bytes, 0);
-    let kind = numbers % FOUR_BYTES;
-    if (kind == 0) | (LAST < kind) {
-        return stop(CUT);
-    }
-    Order {
-        kind,
-        length: (numbers / FOUR_BYTES) as usize,
-        a: value_at(&bytes, VALUE),
-        left: left - LINE,
-    }
-}
-
-// The next operation, of which the payload stands at the start of what is lent for it.
-pub(crate) fn next(input: &mut impl Read, left: usize, payload: &mut [u8]) -> Order
-    ensures within { result.length ≤ length payload.new }
-    ensures falls { result.left ≤ left - line_size }
-{
-    let mut order = head(input, left);
-    let length = order.length;
-    let rest = order.left;
-    if payload.len() < length {
-        return stop(CUT);
-    }
-    if read_within(input, &mut payload[..length], rest) < length {
-        return stop(CUT);
-    }
-    order.left = rest - length;
-    order
+    let numbers = u64_at(&head, 0);
+    let operation = Operation::try_from(numbers % FOUR_BYTES)?;
+    let length = (numbers / FOUR_BYTES) as usize;
+    let payload = space.get_mut(..length).ok_or(Broken)?;
+    input.read_exact(payload).map_err(|_| Broken)?;
+    Ok(Some(Order {
+        operation,
+        a: u64_at(&head, VALUE),
+        payload,
+    }))
 }

@@ -6,56 +6,48 @@ ghost use Rattle.heads.specs.Decisions.{decided};
 ghost use Rattle.editing.specs.Steps.{bucketless_claim, shared_to_claim, claim_to_pending};
 
 use heads::{Decision, Edit, leave_exc, refuse, value_of};
-use kinds::{ExcState, MaybeBucket, awaited, claimable, claimed};
+use kinds::{ExcState, awaited, claimable, claimed};
 use page_record::Head;
-use readers::Found;
 use requests::{Refusal, Request};
 
 // 3: a claim by an editor that has no bucket.
 pub fn bucketless_claim(h: Head) -> Decision
     ensures { result ≡ decided h (bucketless_claim h) }
 {
-    let storage = h.storage;
-    let flag = h.flag;
-    if !claimable(flag) {
+    if !claimable(h.flag) {
         return refuse(h, Refusal::WrongFlag);
     }
     let claim = ExcState::Claim {
-        bucket: MaybeBucket::None,
-        value: value_of(storage),
+        bucket: None,
+        value: value_of(h.storage),
     };
-    leave_exc(h, claimed(flag), claim, Edit::Keep)
+    leave_exc(h, claimed(h.flag), claim, Edit::Keep)
 }
 
 // 4: a claim by the reader that is found, which leaves the list and keeps its bucket.
-pub fn shared_to_claim(h: Head, q: Request, found: Found) -> Decision
+pub fn shared_to_claim(h: Head, q: Request, found: Option<usize>) -> Decision
     ensures { result ≡ decided h (shared_to_claim h q found) }
 {
-    let flag = h.flag;
-    let bucket = q.bucket;
-    let value = q.value;
-    if !claimable(flag) {
+    if !claimable(h.flag) {
         return refuse(h, Refusal::WrongFlag);
     }
-    let Found::At(place) = found else {
+    let Some(place) = found else {
         return refuse(h, Refusal::NoHolder);
     };
     let claim = ExcState::Claim {
-        bucket: MaybeBucket::At(bucket),
-        value,
+        bucket: Some(q.bucket),
+        value: q.value,
     };
-    leave_exc(h, claimed(flag), claim, Edit::Remove(place))
+    leave_exc(h, claimed(h.flag), claim, Edit::Remove(place))
 }
 
 // 5: the claimant waits for the archive to be done.
 pub fn claim_to_pending(h: Head) -> Decision
     ensures { result ≡ decided h (claim_to_pending h) }
 {
-    let flag = h.flag;
-    let exc = h.exc_state;
-    let ExcState::Claim { bucket, value } = exc else {
+    let ExcState::Claim { bucket, value } = h.exc_state else {
         return refuse(h, Refusal::NoHolder);
     };
     let waiting = ExcState::PendingAwaitWriteback { bucket, value };
-    leave_exc(h, awaited(flag), waiting, Edit::Keep)
+    leave_exc(h, awaited(h.flag), waiting, Edit::Keep)
 }

@@ -13,8 +13,7 @@ use heads::{
     withdraw_exc,
 };
 use kinds::{
-    BUCKETS, Bucket, CEILING, ExcState, Flag, MaybeBucket, Phase, Reader, Visited, lock_flag,
-    writeback_done,
+    BUCKETS, Bucket, CEILING, ExcState, Flag, Phase, Reader, Visited, lock_flag, writeback_done,
 };
 use page_record::{Head, ref_at};
 use requests::{Refusal, Request};
@@ -23,15 +22,13 @@ use requests::{Refusal, Request};
 pub fn take_exc_lock_finish_writeback(h: Head, q: Request) -> Decision
     ensures { result ≡ decided h (take_exc_lock_finish_writeback h q) }
 {
-    let flag = h.flag;
-    let exc = h.exc_state;
-    let clean = q.clean == 1;
-    if !writeback_done(flag) {
+    if !writeback_done(h.flag) {
         return refuse(h, Refusal::WrongFlag);
     }
-    let ExcState::PendingAwaitWriteback { bucket, value } = exc else {
+    let ExcState::PendingAwaitWriteback { bucket, value } = h.exc_state else {
         return refuse(h, Refusal::NoHolder);
     };
+    let clean = q.clean == 1;
     let pending = ExcState::Pending {
         bucket,
         visited_count: Visited(0),
@@ -45,23 +42,20 @@ pub fn take_exc_lock_finish_writeback(h: Head, q: Request) -> Decision
 pub fn take_exc_lock_check_ref_count(h: Head) -> Decision
     ensures { result ≡ decided h (take_exc_lock_check_ref_count h) }
 {
-    let flag = h.flag;
-    let exc = h.exc_state;
     let ExcState::Pending {
         bucket,
-        visited_count,
+        visited_count: Visited(visited),
         clean,
         value,
-    } = exc
+    } = h.exc_state
     else {
         return refuse(h, Refusal::NoHolder);
     };
-    let visited = visited_count.0;
     if visited >= BUCKETS {
         return refuse(h, Refusal::WrongVisited);
     }
     let here = Bucket(visited);
-    if number_at(h, here) as usize != ref_at(bucket, here) {
+    if usize::from(number_at(h, here)) != ref_at(bucket, here) {
         return refuse(h, Refusal::OtherCount);
     }
     let pending = ExcState::Pending {
@@ -70,24 +64,23 @@ pub fn take_exc_lock_check_ref_count(h: Head) -> Decision
         clean,
         value,
     };
-    leave_exc(h, flag, pending, Edit::Keep)
+    leave_exc(h, h.flag, pending, Edit::Keep)
 }
 
 // 8: every bucket was looked at; the page is handed out, and the editor keeps its version.
 pub fn withdraw_take_exc_lock_finish(h: Head) -> Decision
     ensures { result ≡ decided h (withdraw_take_exc_lock_finish h) }
 {
-    let exc = h.exc_state;
     let ExcState::Pending {
         bucket,
-        visited_count,
+        visited_count: Visited(visited),
         clean,
         value,
-    } = exc
+    } = h.exc_state
     else {
         return refuse(h, Refusal::NoHolder);
     };
-    if visited_count.0 != BUCKETS {
+    if visited != BUCKETS {
         return refuse(h, Refusal::WrongVisited);
     }
     let obtained = ExcState::Obtained {
@@ -102,32 +95,30 @@ pub fn withdraw_take_exc_lock_finish(h: Head) -> Decision
 pub fn deposit_downgrade_exc_lock(h: Head, q: Request, full: bool) -> Decision
     ensures { result ≡ decided h (deposit_downgrade_exc_lock h q full) }
 {
-    let exc = h.exc_state;
-    let value = q.value;
     let ExcState::Obtained {
         bucket,
         clean,
         value: kept,
-    } = exc
+    } = h.exc_state
     else {
         return refuse(h, Refusal::NoHolder);
     };
-    let MaybeBucket::At(own) = bucket else {
+    let Some(own) = bucket else {
         return refuse(h, Refusal::WrongBucket);
     };
     if full {
         return refuse(h, Refusal::ListFull);
     }
-    if !may_put_in(clean, kept, value) {
+    if !may_put_in(clean, kept, q.value) {
         return refuse(h, Refusal::OtherValue);
     }
     let reader = Reader {
-        phase: Phase::Obtained(value),
+        phase: Phase::Obtained(q.value),
         bucket: own,
     };
     deposit_exc(
         h,
-        value,
+        q.value,
         Flag::Available,
         ExcState::None,
         Edit::Push(reader),
@@ -135,58 +126,59 @@ pub fn deposit_downgrade_exc_lock(h: Head, q: Request, full: bool) -> Decision
 }
 
 // 10: the editor puts the page in, a clean one as it took it, and keeps its claim.
+// 9 and 10 stay two functions, as in the source: 10 asks for no room, and one for both would be told by a flag which it is.
 pub fn deposit_downgrade_exc_lock_to_claim(h: Head, q: Request) -> Decision
     ensures { result ≡ decided h (deposit_downgrade_exc_lock_to_claim h q) }
 {
-    let exc = h.exc_state;
-    let value = q.value;
     let ExcState::Obtained {
         bucket,
         clean,
         value: kept,
-    } = exc
+    } = h.exc_state
     else {
         return refuse(h, Refusal::NoHolder);
     };
-    let MaybeBucket::At(own) = bucket else {
+    if bucket.is_none() {
         return refuse(h, Refusal::WrongBucket);
-    };
-    if !may_put_in(clean, kept, value) {
+    }
+    if !may_put_in(clean, kept, q.value) {
         return refuse(h, Refusal::OtherValue);
     }
     let claim = ExcState::Claim {
-        bucket: MaybeBucket::At(own),
-        value,
+        bucket,
+        value: q.value,
     };
-    deposit_exc(h, value, Flag::Claimed, claim, Edit::Keep)
+    deposit_exc(h, q.value, Flag::Claimed, claim, Edit::Keep)
 }
 
 // 18: an editor that has no bucket gets one, and keeps its version.
 pub fn exc_inc_count(h: Head, q: Request) -> Decision
     ensures { result ≡ decided h (exc_inc_count h q) }
 {
-    let flag = h.flag;
-    let exc = h.exc_state;
-    let at = q.bucket;
     let ExcState::Obtained {
         bucket,
         clean,
         value,
-    } = exc
+    } = h.exc_state
     else {
         return refuse(h, Refusal::NoHolder);
     };
-    let MaybeBucket::None = bucket else {
+    if bucket.is_some() {
         return refuse(h, Refusal::WrongBucket);
-    };
-    let n = number_at(h, at);
+    }
+    let n = number_at(h, q.bucket);
     if n >= CEILING {
         return refuse(h, Refusal::AtCeiling);
     }
     let obtained = ExcState::Obtained {
-        bucket: MaybeBucket::At(at),
+        bucket: Some(q.bucket),
         clean,
         value,
     };
-    leave_exc(with_number(h, at, n + 1), flag, obtained, Edit::Keep)
+    leave_exc(
+        with_number(h, q.bucket, n + 1),
+        h.flag,
+        obtained,
+        Edit::Keep,
+    )
 }

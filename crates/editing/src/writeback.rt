@@ -5,7 +5,7 @@ ghost use Rattle.heads.specs.Decisions.{decided};
 ghost use Rattle.editing.specs.Steps.{take_writeback, release_writeback};
 
 use heads::{Decision, leave_writeback, refuse, value_of};
-use kinds::{Flag, WritebackState, is_available, released};
+use kinds::{Flag, is_available, released};
 use page_record::Head;
 use requests::Refusal;
 
@@ -13,14 +13,10 @@ use requests::Refusal;
 pub fn take_writeback(h: Head) -> Decision
     ensures { result ≡ decided h (take_writeback h) }
 {
-    let storage = h.storage;
-    let flag = h.flag;
-    if !is_available(flag) {
+    if !is_available(h.flag) {
         return refuse(h, Refusal::WrongFlag);
     }
-    let held = WritebackState::Held {
-        value: value_of(storage),
-    };
+    let held = Some(value_of(h.storage));
     leave_writeback(h, Flag::Writeback, held)
 }
 
@@ -28,10 +24,8 @@ pub fn take_writeback(h: Head) -> Decision
 pub fn release_writeback(h: Head) -> Decision
     ensures { result ≡ decided h (release_writeback h) }
 {
-    let flag = h.flag;
-    let writeback = h.writeback_state;
-    let WritebackState::Held { value: _ } = writeback else {
+    if h.writeback_state.is_none() {
         return refuse(h, Refusal::NoHolder);
-    };
-    leave_writeback(h, released(flag), WritebackState::None)
+    }
+    leave_writeback(h, released(h.flag), None)
 }

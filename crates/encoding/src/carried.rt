@@ -3,15 +3,14 @@ ghost use Rattle.std.specs.Prelude.{◌≡◌};
 ghost use Rattle.page_record.specs.Holders.{exc_clean, exc_value, writeback_value};
 ghost use Rattle.encoding.specs.Carried.{phase_value, exc_bucket_number, loading_bucket_number};
 
-use kinds::{ExcState, LoadingState, Phase, WritebackState, bucket_number};
+use kinds::{ExcState, LoadingState, Phase, bucket_number};
 
 // The value of a reader that has come through.
 pub fn phase_value(p: Phase) -> u64
     ensures { result ≡ phase_value p }
 {
     match p {
-        Phase::Pending => 0,
-        Phase::Pending2 => 0,
+        Phase::Pending | Phase::Pending2 => 0,
         Phase::Obtained(value) => value,
     }
 }
@@ -22,10 +21,10 @@ pub fn exc_bucket_number(e: ExcState) -> u8
 {
     match e {
         ExcState::None => 0,
-        ExcState::Claim { bucket, .. } => bucket_number(bucket),
-        ExcState::PendingAwaitWriteback { bucket, .. } => bucket_number(bucket),
-        ExcState::Pending { bucket, .. } => bucket_number(bucket),
-        ExcState::Obtained { bucket, .. } => bucket_number(bucket),
+        ExcState::Claim { bucket, .. }
+        | ExcState::PendingAwaitWriteback { bucket, .. }
+        | ExcState::Pending { bucket, .. }
+        | ExcState::Obtained { bucket, .. } => bucket_number(bucket),
     }
 }
 
@@ -34,11 +33,8 @@ pub fn exc_clean(e: ExcState) -> bool
     ensures { result ≡ exc_clean e }
 {
     match e {
-        ExcState::None => false,
-        ExcState::Claim { .. } => false,
-        ExcState::PendingAwaitWriteback { .. } => false,
-        ExcState::Pending { clean, .. } => clean,
-        ExcState::Obtained { clean, .. } => clean,
+        ExcState::Pending { clean, .. } | ExcState::Obtained { clean, .. } => clean,
+        _ => false,
     }
 }
 
@@ -48,10 +44,10 @@ pub fn exc_value(e: ExcState) -> u64
 {
     match e {
         ExcState::None => 0,
-        ExcState::Claim { value, .. } => value,
-        ExcState::PendingAwaitWriteback { value, .. } => value,
-        ExcState::Pending { value, .. } => value,
-        ExcState::Obtained { value, .. } => value,
+        ExcState::Claim { value, .. }
+        | ExcState::PendingAwaitWriteback { value, .. }
+        | ExcState::Pending { value, .. }
+        | ExcState::Obtained { value, .. } => value,
     }
 }
 
@@ -60,19 +56,16 @@ pub fn loading_bucket_number(l: LoadingState) -> u8
     ensures { result ≡ loading_bucket_number l }
 {
     match l {
-        LoadingState::None => 0,
-        LoadingState::Pending => 0,
-        LoadingState::PendingCounted { bucket } => bucket_number(bucket),
-        LoadingState::Obtained { bucket } => bucket_number(bucket),
+        LoadingState::None | LoadingState::Pending => 0,
+        LoadingState::PendingCounted { bucket } | LoadingState::Obtained { bucket } => {
+            bucket_number(bucket)
+        }
     }
 }
 
 // The archive's value.
-pub fn writeback_value(w: WritebackState) -> u64
+pub fn writeback_value(w: Option<u64>) -> u64
     ensures { result ≡ writeback_value w }
 {
-    match w {
-        WritebackState::None => 0,
-        WritebackState::Held { value } => value,
-    }
+    w.unwrap_or(0)
 }

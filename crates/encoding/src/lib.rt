@@ -13,7 +13,7 @@ mod places;
 
 use carried::{exc_value, phase_value, writeback_value};
 use heads::value_of;
-use kinds::{CAPACITY, LINE, phase_number};
+use kinds::{CAPACITY, LINE, Reader, phase_number};
 use lines::{count_bytes, kind_bytes};
 use page_record::{Head, Page, head_of};
 use places::ZEROS;
@@ -37,12 +37,9 @@ fn put_values(head: Head, out: &mut [u8])
     requires { length out.old ≡ 2 * line_size }
     ensures { out.new ≡ value_bytes head }
 {
-    let storage = head.storage;
-    let exc = head.exc_state;
-    let writeback = head.writeback_state;
-    wire::write_u64(&mut out[0..SECOND], value_of(storage));
-    wire::write_u64(&mut out[SECOND..THIRD], exc_value(exc));
-    wire::write_u64(&mut out[THIRD..LAST], writeback_value(writeback));
+    wire::write_u64(&mut out[..SECOND], value_of(head.storage));
+    wire::write_u64(&mut out[SECOND..THIRD], exc_value(head.exc_state));
+    wire::write_u64(&mut out[THIRD..LAST], writeback_value(head.writeback_state));
     wire::write_u64(&mut out[LAST..VALUES], 0);
 }
 
@@ -51,28 +48,22 @@ fn put_entry(readers: Readers, i: usize, out: &mut [u8])
     requires { i < capacity }
     ensures { out.new ≡ put_to (first_entry (drop i (live readers))) out.old }
 {
-    let len = readers.len;
-    if len <= i {
+    if readers.len <= i {
         wire::put(out, 0, 0, 0, 0);
         return;
     }
-    let reader = readers.items[i];
-    let phase = reader.phase;
-    let bucket = reader.bucket;
+    let Reader { phase, bucket } = readers.items[i];
     wire::put(out, phase_number(phase), bucket.0, 0, phase_value(phase));
 }
 
-// An entry for each place of the list.
+// An entry for each place of the list. By places, since no proof knows what was written through `chunks_exact_mut` once it is over.
 fn put_list(readers: Readers, out: &mut [u8])
     requires { length out.old ≡ line_size * capacity }
     ensures { out.new ≡ entries capacity (live readers) }
 {
-    let mut i: usize = 0;
-    while i < CAPACITY {
+    for i in 0..CAPACITY {
         let at = LINE * i;
-        let next = at + LINE;
-        put_entry(readers, i, &mut out[at..next]);
-        i += 1;
+        put_entry(readers, i, &mut out[at..at + LINE]);
     }
 }
 
@@ -82,22 +73,20 @@ fn put_image(page: Page, out: &mut [u8])
     requires { length out.old ≡ image_size capacity }
     ensures { out.new ≡ image_of capacity page }
 {
-    let readers = page.readers;
     let head = head_of(page);
-    let kinds = kind_bytes(head, readers.len);
-    let counts = count_bytes(head);
-    out[0..COUNTS].copy_from_slice(&kinds);
-    out[COUNTS..STORAGE_VALUE].copy_from_slice(&counts);
+    out[..COUNTS].copy_from_slice(&kind_bytes(head, page.readers.len));
+    out[COUNTS..STORAGE_VALUE].copy_from_slice(&count_bytes(head));
     put_values(head, &mut out[STORAGE_VALUE..READERS]);
-    put_list(readers, &mut out[READERS..IMAGE]);
+    put_list(page.readers, &mut out[READERS..IMAGE]);
 }
 
 // The page's image over the first bytes of a buffer; one that is too short stays as it was.
+#[tactic(auto, using(crate::proofs::Rooms::imaged_short, crate::proofs::Rooms::imaged_whole))]
 pub fn encode(page: Page, out: &mut [u8])
     ensures { out.new ≡ imaged_in page out.old }
 {
     if out.len() < IMAGE {
         return;
     }
-    put_image(page, &mut out[0..IMAGE]);
+    put_image(page, &mut out[..IMAGE]);
 }

@@ -3,6 +3,7 @@ ghost use Rattle.std.specs.Prelude.{◌≡◌};
 ghost use Rattle.encoding.specs.Images.{kind_bytes, count_bytes};
 
 use crate::carried::{exc_bucket_number, exc_clean, loading_bucket_number};
+use crate::places::WRITEBACK;
 use kinds::{LINE, exc_number, flag_number, loading_number, storage_number, writeback_number};
 use page_record::{Head, exc_visited};
 
@@ -11,30 +12,21 @@ use page_record::{Head, exc_visited};
 pub fn kind_bytes(head: Head, len: usize) -> [u8; LINE]
     ensures { result ≡ kind_bytes head len }
 {
-    let flag = head.flag;
-    let storage = head.storage;
-    let exc = head.exc_state;
-    let loading = head.loading_state;
-    let writeback = head.writeback_state;
-    let visited = exc_visited(exc);
-    [
-        flag_number(flag),
-        storage_number(storage),
+    let mut line = [0; LINE];
+    line[..=WRITEBACK].copy_from_slice(&[
+        flag_number(head.flag),
+        storage_number(head.storage),
         (len % 256) as u8,
         (len / 256 % 256) as u8,
-        exc_number(exc),
-        exc_bucket_number(exc),
-        visited.0,
-        exc_clean(exc) as u8,
-        loading_number(loading),
-        loading_bucket_number(loading),
-        writeback_number(writeback),
-        0,
-        0,
-        0,
-        0,
-        0,
-    ]
+        exc_number(head.exc_state),
+        exc_bucket_number(head.exc_state),
+        exc_visited(head.exc_state).0,
+        exc_clean(head.exc_state) as u8,
+        loading_number(head.loading_state),
+        loading_bucket_number(head.loading_state),
+        writeback_number(head.writeback_state),
+    ]);
+    line
 }
 
 // The counts.
@@ -42,23 +34,6 @@ pub fn kind_bytes(head: Head, len: usize) -> [u8; LINE]
 pub fn count_bytes(head: Head) -> [u8; LINE]
     ensures { result ≡ count_bytes head }
 {
-    let counts = head.ref_counts;
-    [
-        counts[0].0,
-        counts[1].0,
-        counts[2].0,
-        counts[3].0,
-        0,
-        0,
-        0,
-        0,
-        0,
-        0,
-        0,
-        0,
-        0,
-        0,
-        0,
-        0,
-    ]
+    let [a, b, c, d] = head.ref_counts;
+    [a.0, b.0, c.0, d.0, 0, 0, 0, 0, 0, 0, 0, 0, 0, 0, 0, 0]
 }

@@ -1,12 +1,11 @@
 -- A step as a list of premises, what it answers where all hold, and what it leaves: of the head, and by its edit of the list of
 -- readers. What is decided of a head: the step, or the refusal of its first premise that fails.
-use Rattle.std.specs.Prelude.{ℕ, Bool, true, false, not, ◌||◌, List, eqb, ltb}
+use Rattle.std.specs.Prelude.{ℕ, Option, Some, None, Result, Ok, Err, Bool, true, false, not, ◌||◌, List, eqb, ltb}
 use Rattle.kinds.specs.declared.{Bucket.Bucket, Phase.Phase, Reader.Reader}
 use Rattle.kinds.specs.Limits.{ceiling}
-use Rattle.readers.specs.declared.Found.{Found}
 use Rattle.page_record.specs.declared.Head.{Head}
 use Rattle.page_record.specs.Pages.{number_at}
-use Rattle.requests.specs.declared.{Refusal.Refusal, Answer.Answer, Verdict.Verdict}
+use Rattle.requests.specs.declared.{Refusal.Refusal, Answer.Answer}
 use Rattle.requests.specs.Premises.{verdict}
 use Rattle.heads.specs.declared.{Edit.Edit, Decision.Decision}
 
@@ -25,13 +24,13 @@ abbrev pub hands_out : List (Refusal × Bool) → Head → ℕ → Step
 hands_out premises h value = record { premises = premises; answer = Answer.Withdrew value; head = h; edit = Edit.Keep }
 
 -- ---- what its parts are made of
-abbrev pub is_found : Found → Bool
-is_found (Found.At place) = true
-is_found Found.Nowhere = false
+abbrev pub is_found : Option ℕ → Bool
+is_found (Some place) = true
+is_found None = false
 
-abbrev pub place_of : Found → ℕ
-place_of (Found.At place) = place
-place_of Found.Nowhere = 0
+abbrev pub place_of : Option ℕ → ℕ
+place_of (Some place) = place
+place_of None = 0
 
 abbrev pub reader : Phase → Bucket → Reader
 reader phase bucket = record { phase = phase; bucket = bucket }
@@ -50,9 +49,9 @@ abbrev pub refused : Head → Refusal → Decision
 refused h why = record { answer = Answer.Refused why; head = h; edit = Edit.Keep }
 
 -- what a verdict makes of a step
-abbrev pub settled : Head → Step → Verdict → Decision
-settled h st Verdict.Passed = record { answer = st.answer; head = st.head; edit = st.edit }
-settled h st (Verdict.Failed why) = refused h why
+abbrev pub settled : Head → Step → Result (Unit {0}) Refusal → Decision
+settled h st (Ok _) = record { answer = st.answer; head = st.head; edit = st.edit }
+settled h st (Err why) = refused h why
 
 abbrev pub decided : Head → Step → Decision
 decided h st = settled h st (verdict st.premises)

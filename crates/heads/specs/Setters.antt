@@ -1,11 +1,11 @@
 -- A head with one part exchanged: antt has no record update. A transition then reads as in the source.
-use Rattle.std.specs.Prelude.{ℕ, ◌+◌, ◌-◌, List, set}
-use Rattle.kinds.specs.declared.{Count.Count, Flag.Flag, Storage.Storage, ExcState.ExcState, LoadingState.LoadingState}
-use Rattle.kinds.specs.declared.{WritebackState.WritebackState, MaybeBucket.MaybeBucket}
+use Rattle.std.specs.Prelude.{ℕ, Option, Some, None, ◌+◌, ◌-◌, List, set}
+use Rattle.kinds.specs.declared.{Count.Count, Flag.Flag, ExcState.ExcState, LoadingState.LoadingState}
+use Rattle.kinds.specs.declared.Bucket.{Bucket}
 use Rattle.page_record.specs.declared.Head.{Head}
 use Rattle.page_record.specs.Pages.{number_at, head_with}
 
-abbrev pub with_storage : Storage → Head → Head
+abbrev pub with_storage : Option ℕ → Head → Head
 with_storage s h = head_with s h.flag h.ref_counts h.exc_state h.loading_state h.writeback_state
 
 abbrev pub with_flag : Flag → Head → Head
@@ -20,7 +20,7 @@ with_exc e h = head_with h.storage h.flag h.ref_counts e h.loading_state h.write
 abbrev pub with_loading : LoadingState → Head → Head
 with_loading l h = head_with h.storage h.flag h.ref_counts h.exc_state l h.writeback_state
 
-abbrev pub with_writeback : WritebackState → Head → Head
+abbrev pub with_writeback : Option ℕ → Head → Head
 with_writeback w h = head_with h.storage h.flag h.ref_counts h.exc_state h.loading_state w
 
 -- the counts with this number at a bucket
@@ -41,9 +41,9 @@ abbrev pub lowered : ℕ → Head → Head
 lowered b h = with_counts (lower b h.ref_counts) h
 
 -- one less at a holder's bucket, if it has one
-abbrev pub lower_if : MaybeBucket → List Count → List Count
-lower_if MaybeBucket.None cs = cs
-lower_if (MaybeBucket.At b) cs = lower b.0 cs
+abbrev pub lower_if : Option Bucket → List Count → List Count
+lower_if None cs = cs
+lower_if (Some b) cs = lower b.0 cs
 
-abbrev pub lowered_if : MaybeBucket → Head → Head
+abbrev pub lowered_if : Option Bucket → Head → Head
 lowered_if own h = with_counts (lower_if own h.ref_counts) h

@@ -2,17 +2,14 @@
 // takes any head, and any number for a bucket.
 #![tactic(auto)]
 
-ghost use Rattle.std.specs.Prelude.{◌≡◌, []};
+ghost use Rattle.std.specs.Prelude.{◌≡◌, Some, None, []};
 ghost use Rattle.page_record.specs.Holders.{value_of};
 ghost use Rattle.page_record.specs.Pages.{number_at};
 ghost use Rattle.heads.specs.Setters.{with_storage, with_flag, with_counts, with_exc, with_loading, with_writeback};
 ghost use Rattle.heads.specs.Setters.{with_number, lowered, lowered_if};
 ghost use Rattle.heads.specs.Decisions.{refused, decided, accepts, hands_out, may_put_in};
 
-use kinds::{
-    BUCKETS, Bucket, Count, ExcState, Flag, LoadingState, MaybeBucket, Reader, Storage,
-    WritebackState,
-};
+use kinds::{BUCKETS, Bucket, Count, ExcState, Flag, LoadingState, Reader};
 use page_record::Head;
 use requests::{Answer, Refusal};
 
@@ -25,7 +22,7 @@ pub enum Edit {
     Remove(usize),
 }
 
-// What a step decides of a head. An enum may not hold an array, so this is a struct.
+// What a step decides of a head. It is no Result: a refusal too has a head, as it was, in `decided` of specs/.
 #[derive(Clone, Copy)]
 pub struct Decision {
     pub answer: Answer,
@@ -69,38 +66,27 @@ fn hand_out(next: Head, value: u64) -> Decision
 }
 
 // Accepted: the head is left with this flag and this archive.
-pub fn leave_writeback(h: Head, flag: Flag, writeback_state: WritebackState) -> Decision
+pub fn leave_writeback(h: Head, flag: Flag, writeback_state: Option<u64>) -> Decision
     ensures { result ≡ decided h (accepts [] (with_flag flag (with_writeback writeback_state h)) Edit.Keep) }
 {
-    let storage = h.storage;
-    let ref_counts = h.ref_counts;
-    let exc_state = h.exc_state;
-    let loading_state = h.loading_state;
     let head = Head {
-        storage,
         flag,
-        ref_counts,
-        exc_state,
-        loading_state,
         writeback_state,
+        ..h
     };
     accept(head, Edit::Keep)
 }
 
 // The head with this storage, this flag and this exclusive holder.
-fn with_exc(h: Head, storage: Storage, flag: Flag, exc_state: ExcState) -> Head
+// `with_loading` is a function of its own: which field is written can't be a parameter.
+fn with_exc(h: Head, storage: Option<u64>, flag: Flag, exc_state: ExcState) -> Head
     ensures { result ≡ with_flag flag (with_storage storage (with_exc exc_state h)) }
 {
-    let ref_counts = h.ref_counts;
-    let loading_state = h.loading_state;
-    let writeback_state = h.writeback_state;
     Head {
         storage,
         flag,
-        ref_counts,
         exc_state,
-        loading_state,
-        writeback_state,
+        ..h
     }
 }
 
@@ -108,39 +94,32 @@ fn with_exc(h: Head, storage: Storage, flag: Flag, exc_state: ExcState) -> Head
 pub fn leave_exc(h: Head, flag: Flag, exc: ExcState, edit: Edit) -> Decision
     ensures { result ≡ decided h (accepts [] (with_flag flag (with_exc exc h)) edit) }
 {
-    let storage = h.storage;
-    accept(with_exc(h, storage, flag, exc), edit)
+    accept(with_exc(h, h.storage, flag, exc), edit)
 }
 
 // Accepted, and the exclusive holder hands this value in; the head is left with this flag and this exclusive holder.
 pub fn deposit_exc(h: Head, value: u64, flag: Flag, exc: ExcState, edit: Edit) -> Decision
-    ensures { result ≡ decided h (accepts [] (with_flag flag (with_storage (Storage.In value) (with_exc exc h))) edit) }
+    ensures { result ≡ decided h (accepts [] (with_flag flag (with_storage (Some value) (with_exc exc h))) edit) }
 {
-    accept(with_exc(h, Storage::In(value), flag, exc), edit)
+    accept(with_exc(h, Some(value), flag, exc), edit)
 }
 
 // Accepted, and this value is handed out to the exclusive holder.
 pub fn withdraw_exc(h: Head, exc: ExcState, value: u64) -> Decision
-    ensures { result ≡ decided h (hands_out [] (with_storage Storage.Out (with_exc exc h)) value) }
+    ensures { result ≡ decided h (hands_out [] (with_storage None (with_exc exc h)) value) }
 {
-    let flag = h.flag;
-    hand_out(with_exc(h, Storage::Out, flag, exc), value)
+    hand_out(with_exc(h, None, h.flag, exc), value)
 }
 
 // The head with this storage, this flag and this loader.
-fn with_loading(h: Head, storage: Storage, flag: Flag, loading_state: LoadingState) -> Head
+fn with_loading(h: Head, storage: Option<u64>, flag: Flag, loading_state: LoadingState) -> Head
     ensures { result ≡ with_flag flag (with_storage storage (with_loading loading_state h)) }
 {
-    let ref_counts = h.ref_counts;
-    let exc_state = h.exc_state;
-    let writeback_state = h.writeback_state;
     Head {
         storage,
         flag,
-        ref_counts,
-        exc_state,
         loading_state,
-        writeback_state,
+        ..h
     }
 }
 
@@ -148,30 +127,24 @@ fn with_loading(h: Head, storage: Storage, flag: Flag, loading_state: LoadingSta
 pub fn leave_loading(h: Head, flag: Flag, loader: LoadingState) -> Decision
     ensures { result ≡ decided h (accepts [] (with_flag flag (with_loading loader h)) Edit.Keep) }
 {
-    let storage = h.storage;
-    accept(with_loading(h, storage, flag, loader), Edit::Keep)
+    accept(with_loading(h, h.storage, flag, loader), Edit::Keep)
 }
 
 // Accepted, and the loader hands this value in and goes: the page is available.
 pub fn deposit_loading(h: Head, value: u64, edit: Edit) -> Decision
-    ensures { result ≡ decided h (accepts [] (with_flag Flag.Available (with_storage (Storage.In value) (with_loading LoadingState.None h))) edit) }
+    ensures { result ≡ decided h (accepts [] (with_flag Flag.Available (with_storage (Some value) (with_loading LoadingState.None h))) edit) }
 {
-    let storage = Storage::In(value);
     accept(
-        with_loading(h, storage, Flag::Available, LoadingState::None),
+        with_loading(h, Some(value), Flag::Available, LoadingState::None),
         edit,
     )
 }
 
 // Accepted, and what is in storage is handed out to this loader, which stands there under this flag.
 pub fn withdraw_loading(h: Head, flag: Flag, loader: LoadingState) -> Decision
-    ensures { result ≡ decided h (hands_out [] (with_flag flag (with_storage Storage.Out (with_loading loader h))) (value_of h.storage)) }
+    ensures { result ≡ decided h (hands_out [] (with_flag flag (with_storage None (with_loading loader h))) (value_of h.storage)) }
 {
-    let storage = h.storage;
-    hand_out(
-        with_loading(h, Storage::Out, flag, loader),
-        value_of(storage),
-    )
+    hand_out(with_loading(h, None, flag, loader), value_of(h.storage))
 }
 
 // ---- counts and storage
@@ -180,65 +153,45 @@ pub fn withdraw_loading(h: Head, flag: Flag, loader: LoadingState) -> Decision
 pub fn number_at(h: Head, bucket: Bucket) -> u8
     ensures { result ≡ number_at h.ref_counts bucket.0 }
 {
-    let counts = h.ref_counts;
-    let b = bucket.0;
-    if b < BUCKETS {
-        let count = counts[b as usize];
-        count.0
-    } else {
-        0
-    }
+    h.ref_counts
+        .get(bucket.0 as usize)
+        .map_or(0, |count| count.0)
 }
 
 // The head with this count at a bucket.
-pub fn with_number(h: Head, bucket: Bucket, n: u8) -> Head
+pub fn with_number(mut h: Head, bucket: Bucket, n: u8) -> Head
     ensures { result ≡ with_counts (with_number bucket.0 n h.ref_counts) h }
 {
-    let b = bucket.0;
-    if b < BUCKETS {
-        let mut next = h;
-        next.ref_counts[b as usize] = Count(n);
-        next
-    } else {
-        h
+    if bucket.0 < BUCKETS {
+        h.ref_counts[bucket.0 as usize] = Count(n);
     }
+    h
 }
 
 // The head with one less at a bucket. A count of 0 stays: a sound record doesn't come there.
 pub fn lower(h: Head, bucket: Bucket) -> Head
     ensures { result ≡ lowered bucket.0 h }
 {
-    let n = number_at(h, bucket);
-    if n == 0 {
-        with_number(h, bucket, 0)
-    } else {
-        with_number(h, bucket, n - 1)
-    }
+    with_number(h, bucket, number_at(h, bucket).saturating_sub(1))
 }
 
 // The head with one less at a holder's bucket, if it has one.
-pub fn lower_if(h: Head, own: MaybeBucket) -> Head
+pub fn lower_if(h: Head, own: Option<Bucket>) -> Head
     ensures { result ≡ lowered_if own h }
 {
-    match own {
-        MaybeBucket::None => h,
-        MaybeBucket::At(bucket) => lower(h, bucket),
-    }
+    own.map_or(h, |bucket| lower(h, bucket))
 }
 
 // Whether a holder that keeps this value may put that one in: if it is clean, no other than the one that it keeps.
 pub fn may_put_in(clean: bool, kept: u64, value: u64) -> bool
     ensures { result ≡ may_put_in clean kept value }
 {
-    !clean | (value == kept)
+    !clean || value == kept
 }
 
 // The source's storage.get_Some_0(); 0 where the page is out: a sound record doesn't come there.
-pub fn value_of(storage: Storage) -> u64
+pub fn value_of(storage: Option<u64>) -> u64
     ensures { result ≡ value_of storage }
 {
-    match storage {
-        Storage::Out => 0,
-        Storage::In(value) => value,
-    }
+    storage.unwrap_or(0)
 }

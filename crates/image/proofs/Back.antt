@@ -1,5 +1,6 @@
 -- What is written of each part of a page is read back: a flag, storage, a holder, the counts, a reader. A bucket is read back where it is
 -- below the number of none. Assumes nothing.
+use Rattle.std.specs.Prelude.{Option, Some, None}
 use Prim.Native.Nat.{ℕ, ◌+◌, ◌*◌, ◌/◌, ◌%◌, ◌<◌}
 use mathlib.Core.Bool.{Bool, cond}
 use mathlib.Core.List.{List, [], ◌∷◌}
@@ -10,8 +11,9 @@ use lib.Dec.{T, eqb, ltb→lt}
 use lib.ListN.{length}
 use Rattle.laws.proofs.Lists.{four_are}
 use Rattle.laws.proofs.Tests.{byte_back}
-use Rattle.kinds.specs.declared.{Count.Count, Flag.Flag, MaybeBucket.MaybeBucket, Storage.Storage, Phase.Phase}
-use Rattle.kinds.specs.declared.{ExcState.ExcState, LoadingState.LoadingState, WritebackState.WritebackState}
+use Rattle.kinds.specs.declared.{Count.Count, Flag.Flag, Phase.Phase}
+use Rattle.kinds.specs.declared.{ExcState.ExcState, LoadingState.LoadingState}
+use Rattle.kinds.specs.declared.Bucket.{Bucket}
 use Rattle.kinds.specs.Limits.{buckets}
 use Rattle.kinds.specs.Numbers.{flag_number, storage_number, bucket_number, phase_number, exc_number, loading_number, writeback_number}
 use Rattle.kinds.specs.Numbers.{flag_from, storage_from, bucket_from, phase_from, exc_from, loading_from, writeback_from, no_bucket}
@@ -33,15 +35,15 @@ flag_back Flag.PendingExcLock = refl
 flag_back Flag.ExcLockClean = refl
 flag_back Flag.ExcLockDirty = refl
 
-pub storage_back : (s : Storage) → storage_from (storage_number s) (value_of s) ≡ s
+pub storage_back : (s : Option ℕ) → storage_from (storage_number s) (value_of s) ≡ s
 unfolding storage_from
-storage_back Storage.Out = refl
-storage_back (Storage.In v) = refl
+storage_back None = refl
+storage_back (Some v) = refl
 
-pub writeback_back : (w : WritebackState) → writeback_from (writeback_number w) (writeback_value w) ≡ w
+pub writeback_back : (w : Option ℕ) → writeback_from (writeback_number w) (writeback_value w) ≡ w
 unfolding writeback_from
-writeback_back WritebackState.None = refl
-writeback_back (WritebackState.Held v) = refl
+writeback_back None = refl
+writeback_back (Some v) = refl
 
 pub phase_back : (p : Phase) → phase_from (phase_number p) (phase_value p) ≡ p
 unfolding phase_from
@@ -50,10 +52,10 @@ phase_back Phase.Pending2 = refl
 phase_back (Phase.Obtained v) = refl
 
 -- ---- a bucket or none, and who has one
-bucket_back : (m : MaybeBucket) → T (valid_bucket m) → bucket_from (bucket_number m) ≡ m
+bucket_back : (m : Option Bucket) → T (valid_bucket m) → bucket_from (bucket_number m) ≡ m
 unfolding bucket_from
-bucket_back MaybeBucket.None t = refl
-bucket_back (MaybeBucket.At b) t =
+bucket_back None t = refl
+bucket_back (Some b) t =
     let below = ltb→lt b.0 buckets t in
     let other : b.0 ≡ no_bucket → ⊥ = λ e. omega arith in
     rw (ne_eqb b.0 no_bucket other)
@@ -62,13 +64,13 @@ pub exc_back : (e : ExcState) → T (valid_bucket (exc_bucket e))
     → exc_from (exc_number e) (bucket_from (exc_bucket_number e)) (exc_visited e) (eqb (cond (exc_clean e) 1 0) 1) (exc_value e) ≡ e
 unfolding exc_from
 exc_back ExcState.None t = refl
-exc_back (ExcState.Claim m v) t = ap (λ (x : MaybeBucket). ExcState.Claim x v) (bucket_back m t)
-exc_back (ExcState.PendingAwaitWriteback m v) t = ap (λ (x : MaybeBucket). ExcState.PendingAwaitWriteback x v) (bucket_back m t)
+exc_back (ExcState.Claim m v) t = ap (λ (x : Option Bucket). ExcState.Claim x v) (bucket_back m t)
+exc_back (ExcState.PendingAwaitWriteback m v) t = ap (λ (x : Option Bucket). ExcState.PendingAwaitWriteback x v) (bucket_back m t)
 exc_back (ExcState.Pending m n c v) t =
-    ap (λ (x : MaybeBucket). ExcState.Pending x n (eqb (cond c 1 0) 1) v) (bucket_back m t)
+    ap (λ (x : Option Bucket). ExcState.Pending x n (eqb (cond c 1 0) 1) v) (bucket_back m t)
     ∙ ap (λ (x : Bool). ExcState.Pending m n x v) (byte_back c)
 exc_back (ExcState.Obtained m c v) t =
-    ap (λ (x : MaybeBucket). ExcState.Obtained x (eqb (cond c 1 0) 1) v) (bucket_back m t)
+    ap (λ (x : Option Bucket). ExcState.Obtained x (eqb (cond c 1 0) 1) v) (bucket_back m t)
     ∙ ap (λ (x : Bool). ExcState.Obtained m x v) (byte_back c)
 
 pub loading_back : (l : LoadingState) → T (valid_bucket (loading_bucket l))
@@ -76,8 +78,8 @@ pub loading_back : (l : LoadingState) → T (valid_bucket (loading_bucket l))
 unfolding loading_from
 loading_back LoadingState.None t = refl
 loading_back LoadingState.Pending t = refl
-loading_back (LoadingState.PendingCounted m) t = ap (λ (x : MaybeBucket). LoadingState.PendingCounted x) (bucket_back m t)
-loading_back (LoadingState.Obtained m) t = ap (λ (x : MaybeBucket). LoadingState.Obtained x) (bucket_back m t)
+loading_back (LoadingState.PendingCounted m) t = ap (λ (x : Option Bucket). LoadingState.PendingCounted x) (bucket_back m t)
+loading_back (LoadingState.Obtained m) t = ap (λ (x : Option Bucket). LoadingState.Obtained x) (bucket_back m t)
 
 -- ---- the counts, and the list's length
 pub counts_back : (cs : List Count) → length cs ≡ buckets

@@ -1,5 +1,6 @@
 -- Reading an image and writing one give the first number that applies: of 15 and 16 to the bytes (`read_number`), of 1 and 15 to the page
 -- and the buffer (`write_number`). Neither carries a value. Assumes nothing.
+use Rattle.std.specs.Prelude.{Result, Ok, Err}
 use Prim.Native.Nat.{ℕ}
 use mathlib.Core.Bool.{Bool, true, false, not, ◌&&◌, not-not}
 use mathlib.Core.List.{List, [], ◌∷◌}
@@ -13,7 +14,7 @@ use Rattle.laws.proofs.Orders.{leb_ltb}
 use Rattle.laws.proofs.Tests.{to_true}
 use Rattle.page_record.specs.declared.Page.{Page}
 use Rattle.soundness.specs.Soundness.{sound_under, sound_of}
-use Rattle.requests.specs.declared.{Refusal.Refusal, Answer.Answer, Verdict.Verdict}
+use Rattle.requests.specs.declared.{Refusal.Refusal, Answer.Answer}
 use Rattle.requests.specs.Answers.{answer_number, withdraws}
 use Rattle.requests.specs.Premises.{verdict}
 use Rattle.requests.proofs.Verdicts.{verdict_number_lem}
@@ -26,9 +27,9 @@ use Rattle.image.specs.Applies.{applying_read, applying_write}
 use Rattle.image.proofs.Lengths.{known_one, known_none}
 
 -- ---- reading
-restored_answer : (p : Page) (v : Verdict) → (restored_as p v).answer ≡ answer_for v
-restored_answer p Verdict.Passed = refl
-restored_answer p (Verdict.Failed why) = refl
+restored_answer : (p : Page) (v : Result (Unit {0}) Refusal) → (restored_as p v).answer ≡ answer_for v
+restored_answer p (Ok _) = refl
+restored_answer p (Err why) = refl
 
 module _ (l : List ℕ) where
   pub read_number : answer_number (restored_from l).answer ≡ first_applying (applying_read l)

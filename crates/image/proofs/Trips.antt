@@ -1,6 +1,7 @@
 -- Writing and reading an image undo each other. In this order: that the page of a sound page's image is that page (`page_back`), part
 -- by part over the number of readers; what an accepted reading tells; the round trips, that reading accepts exactly the images of sound
 -- pages, and that no two of these share one. What is read is said over the limits that the length of the bytes stands for. Assumes nothing.
+use Rattle.std.specs.Prelude.{Option, Some, None, Result, Ok, Err}
 use Prim.Native.Nat.{ℕ, zero, suc, ◌+◌, ◌*◌, ◌-◌, ◌/◌, ◌%◌, ◌<◌, ◌≤◌}
 use mathlib.Core.Bool.{Bool, true, false, cond, ◌&&◌, ◌||◌}
 use mathlib.Core.List.{List, [], ◌∷◌, ◌++◌}
@@ -13,8 +14,9 @@ use lib.ListN.{length, take, drop, get_or, replicate, length-take}
 use lib.Seq.{drop_at}
 use Rattle.laws.proofs.Tests.{to_true, is_true, both, halves, and_iff}
 use Rattle.laws.proofs.Lists.{each_take}
-use Rattle.kinds.specs.declared.{Visited.Visited, MaybeBucket.MaybeBucket, Storage.Storage, Phase.Phase, Reader.Reader}
-use Rattle.kinds.specs.declared.{ExcState.ExcState, WritebackState.WritebackState}
+use Rattle.kinds.specs.declared.{Visited.Visited, Phase.Phase, Reader.Reader}
+use Rattle.kinds.specs.declared.ExcState.{ExcState}
+use Rattle.kinds.specs.declared.Bucket.{Bucket}
 use Rattle.kinds.specs.Limits.{line_size, capacity, ceiling, short_capacity, Limits, today, short}
 use Rattle.kinds.specs.Numbers.{flag_number, storage_number, phase_number, exc_number, loading_number, writeback_number}
 use Rattle.kinds.specs.Numbers.{flag_from, storage_from, bucket_from, phase_from, exc_from, loading_from, writeback_from}
@@ -29,7 +31,7 @@ use Rattle.soundness.proofs.Known.{holders_within_lem}
 use Rattle.soundness.proofs.Tested.{facts}
 use Rattle.soundness.proofs.Under.{sound_under_lem}
 use Rattle.soundness.proofs.FreshPage.{fresh_sound}
-use Rattle.requests.specs.declared.{Refusal.Refusal, Answer.Answer, Verdict.Verdict}
+use Rattle.requests.specs.declared.{Refusal.Refusal, Answer.Answer}
 use Rattle.requests.proofs.Verdicts.{passed}
 use Rattle.wire.specs.Bytes.{value_limit, Bytes, number, low_bytes, line_with}
 use Rattle.wire.proofs.Bytes.{number_low_bytes, number_below, bytes_take, bytes_drop}
@@ -192,7 +194,7 @@ storage_below : (n v : ℕ) → v < value_limit → value_of (storage_from n v) 
 unfolding storage_from
 storage_below n v h = go (eqb n 1)
   where
-    go : (t : Bool) → value_of (cond t (Storage.In v) Storage.Out) < value_limit
+    go : (t : Bool) → value_of (cond t (Some v) None) < value_limit
     go true = h
     go false = omega arith
 
@@ -200,7 +202,7 @@ writeback_below : (n v : ℕ) → v < value_limit → writeback_value (writeback
 unfolding writeback_from
 writeback_below n v h = go (eqb n 1)
   where
-    go : (t : Bool) → writeback_value (cond t (WritebackState.Held v) WritebackState.None) < value_limit
+    go : (t : Bool) → writeback_value (cond t (Some v) None) < value_limit
     go true = h
     go false = omega arith
 
@@ -213,7 +215,7 @@ phase_below n v h = go (eqb n 2) (eqb n 3)
     go false true = h
     go false false = omega arith
 
-exc_below : (n : ℕ) (m : MaybeBucket) (x : Visited) (c : Bool) (v : ℕ) → v < value_limit → exc_value (exc_from n m x c v) < value_limit
+exc_below : (n : ℕ) (m : Option Bucket) (x : Visited) (c : Bool) (v : ℕ) → v < value_limit → exc_value (exc_from n m x c v) < value_limit
 unfolding exc_from
 exc_below zero m x c v h = omega arith
 exc_below (suc zero) m x c v h = h
@@ -251,8 +253,8 @@ pub accepted : (l : List ℕ) (p : Page) → restored_from l ≡ restored p → 
 unfolding restored_from read_verdict is_image
 accepted l p e = go (read_verdict (page_from l) l) refl
   where
-    go : (v : Verdict) → read_verdict (page_from l) l ≡ v → Accepted l p
-    go Verdict.Passed f =
+    go : (v : Result (Unit {0}) Refusal) → read_verdict (page_from l) l ≡ v → Accepted l p
+    go (Ok _) f =
         let said = page_from l in
         let limits = limits_by (length l) in
         let h = halves (sound_under limits said) (is_image said l) (passed (readable said l) f).1.0 in
@@ -262,7 +264,7 @@ accepted l p e = go (read_verdict (page_from l) l) refl
           sound = subst (λ (q : Page). T (sound_under limits q)) same h.0;
           image = sym (same_equal l (image_of limits.readers said) h.1 ∙ ap (image_of limits.readers) same);
         }
-    go (Verdict.Failed why) f =
+    go (Err why) f =
         let w : Answer.Refused why ≡ Answer.Accepted = ap (λ (r : Restored). r.answer) (ap (restored_as (page_from l)) (sym f) ∙ e) in
         absurd (let z : ◌≡◌ {A = ℕ} 0 1 = cc in omega arith)
 
@@ -271,21 +273,21 @@ pub refused_fresh : (l : List ℕ) (why : Refusal) → (restored_from l).answer 
 unfolding restored_from
 refused_fresh l why e = go (read_verdict (page_from l) l) e
   where
-    go : (v : Verdict) → (restored_as (page_from l) v).answer ≡ Answer.Refused why → (restored_as (page_from l) v).page ≡ fresh_page 0
-    go Verdict.Passed f = absurd (let z : ◌≡◌ {A = ℕ} 0 1 = cc in omega arith)
-    go (Verdict.Failed other) f = refl
+    go : (v : Result (Unit {0}) Refusal) → (restored_as (page_from l) v).answer ≡ Answer.Refused why → (restored_as (page_from l) v).page ≡ fresh_page 0
+    go (Ok _) f = absurd (let z : ◌≡◌ {A = ℕ} 0 1 = cc in omega arith)
+    go (Err other) f = refl
 
 -- whatever the bytes are, the page that is given is sound
 pub restored_sound : (l : List ℕ) → T (sound_of (restored_from l).page)
 unfolding restored_from read_verdict
 restored_sound l = go (read_verdict (page_from l) l) refl
   where
-    go : (v : Verdict) → read_verdict (page_from l) l ≡ v → T (sound_of (restored_as (page_from l) v).page)
-    go Verdict.Passed f =
+    go : (v : Result (Unit {0}) Refusal) → read_verdict (page_from l) l ≡ v → T (sound_of (restored_as (page_from l) v).page)
+    go (Ok _) f =
         let said = page_from l in
         let size = length l in
         sound_today size said (halves (sound_under (limits_by size) said) (is_image said l) (passed (readable said l) f).1.0).0
-    go (Verdict.Failed why) f = fresh_sound 0
+    go (Err why) f = fresh_sound 0
 
 -- 4 is no exclusive holder's number, so no image has it at byte 4, and bytes that have it there are refused
 no_number_4 : (e : ExcState) → exc_number e ≡ 4 → ⊥

@@ -1,6 +1,7 @@
 -- What writing an image comes to, by what its code finds out: 1, then 15, else the image over the first bytes of the buffer. And what
 -- the buffer holds then: the image first, what stood past it as it was, and all of it as it was where the writing is refused. Assumes
 -- nothing.
+use Rattle.std.specs.Prelude.{Result}
 use Prim.Native.Nat.{ℕ, ◌<◌, ◌≤◌}
 use mathlib.Core.Bool.{true, false}
 use mathlib.Core.List.{List, ◌++◌}
@@ -10,7 +11,7 @@ use lib.ListN.{length, drop}
 use Rattle.kinds.specs.Limits.{capacity}
 use Rattle.page_record.specs.declared.Page.{Page}
 use Rattle.soundness.specs.Soundness.{sound_of}
-use Rattle.requests.specs.declared.{Refusal.Refusal, Answer.Answer, Verdict.Verdict}
+use Rattle.requests.specs.declared.{Refusal.Refusal, Answer.Answer}
 use Rattle.requests.specs.Premises.{verdict}
 use Rattle.wire.specs.Buffers.{leaves}
 use Rattle.wire.proofs.Buffers.{leaves_past}
@@ -36,7 +37,7 @@ module _ (p : Page) (l : List ℕ) where
 
 -- ---- what the buffer holds then
 module _ (p : Page) (l : List ℕ) where
-  abbrev left : Verdict → List ℕ
+  abbrev left : Result (Unit {0}) Refusal → List ℕ
   left v = leaves whole_size v (image_of capacity p) l
 
   -- what is refused touches nothing

@@ -1,10 +1,10 @@
 -- Reading an image and writing one: what is asked, what is answered, and what comes of it (RULES 5.6 and 5.7).
-use Rattle.std.specs.Prelude.{ℕ, ◌≡◌, Bool, true, false, cond, ◌&&◌, ◌||◌, List, [], ◌∷◌, T, eqb, leb, length}
+use Rattle.std.specs.Prelude.{ℕ, Result, Ok, Err, ◌≡◌, Bool, true, false, cond, ◌&&◌, ◌||◌, List, [], ◌∷◌, T, eqb, leb, length}
 use Rattle.kinds.specs.Limits.{capacity, Limits, today, short}
 use Rattle.page_record.specs.declared.Page.{Page}
 use Rattle.page_record.specs.Pages.{fresh_page}
 use Rattle.soundness.specs.Soundness.{sound_under, sound_of}
-use Rattle.requests.specs.declared.{Refusal.Refusal, Answer.Answer, Verdict.Verdict}
+use Rattle.requests.specs.declared.{Refusal.Refusal, Answer.Answer}
 use Rattle.requests.specs.Premises.{verdict}
 use Rattle.wire.specs.Buffers.{answer_for, leaves}
 use Rattle.image.specs.declared.Restored.{Restored}
@@ -43,7 +43,7 @@ readable p l =
     ∷ (Refusal.NotAnImage, sound_under (limits_by (length l)) p && is_image p l)
     ∷ []
 
-unfoldable pub read_verdict : Page → List ℕ → Verdict
+unfoldable pub read_verdict : Page → List ℕ → Result (Unit {0}) Refusal
 read_verdict p l = verdict (readable p l)
 
 -- a page is read
@@ -51,9 +51,9 @@ abbrev pub restored : Page → Restored
 restored p = record { answer = Answer.Accepted; page = p }
 
 -- a refusal gives a fresh page of 0
-abbrev pub restored_as : Page → Verdict → Restored
-restored_as p Verdict.Passed = restored p
-restored_as p (Verdict.Failed why) = record { answer = Answer.Refused why; page = fresh_page 0 }
+abbrev pub restored_as : Page → Result (Unit {0}) Refusal → Restored
+restored_as p (Ok _) = restored p
+restored_as p (Err why) = record { answer = Answer.Refused why; page = fresh_page 0 }
 
 unfoldable pub restored_from : List ℕ → Restored
 restored_from l = restored_as (page_from l) (read_verdict (page_from l) l)

@@ -1,10 +1,11 @@
 -- Pages, and the bytes of their images: a fresh one, each kind of holder, some with a bucket and some without, and a reader of each phase. The bytes
 -- are those of short images, and zeros make them images of today's length: for two that is computed too, for all it is proved
 -- (`image_longer`). And bytes that are read, and pages that are written, with their numbers. That it is so is computed (proofs/Samples.antt).
-use Rattle.std.specs.Prelude.{ℕ, zero, suc, ◌+◌, ◌-◌, ◌/◌, ◌%◌, Bool, true, false, cond, ◌&&◌, List, [], ◌∷◌, ◌++◌, eqb, length, drop, replicate}
+use Rattle.std.specs.Prelude.{ℕ, Option, Some, None, zero, suc, ◌+◌, ◌-◌, ◌/◌, ◌%◌, Bool, true, false, cond, ◌&&◌, List, [], ◌∷◌, ◌++◌, eqb, length, drop, replicate}
 use Rattle.laws.specs.Lists.{every}
-use Rattle.kinds.specs.declared.{Count.Count, Flag.Flag, MaybeBucket.MaybeBucket, Storage.Storage, Phase.Phase}
-use Rattle.kinds.specs.declared.{ExcState.ExcState, LoadingState.LoadingState, WritebackState.WritebackState}
+use Rattle.kinds.specs.declared.{Count.Count, Flag.Flag, Phase.Phase}
+use Rattle.kinds.specs.declared.{ExcState.ExcState, LoadingState.LoadingState}
+use Rattle.kinds.specs.declared.Bucket.{Bucket}
 use Rattle.kinds.specs.Limits.{buckets, capacity, ceiling, short_capacity, short_ceiling, short}
 use Rattle.readers.specs.Listed.{listed}
 use Rattle.page_record.specs.declared.Page.{Page}
@@ -23,11 +24,11 @@ pub record Sample : Type 0 where
 abbrev pub padded : List ℕ → List ℕ
 padded l = l ++ replicate (short_size - length l) 0
 
-abbrev none : MaybeBucket
-none = MaybeBucket.None
+abbrev none : Option Bucket
+none = None
 
-abbrev at : ℕ → MaybeBucket
-at b = MaybeBucket.At (record { 0 = b })
+abbrev at : ℕ → Option Bucket
+at b = Some (record { 0 = b })
 
 abbrev counts : ℕ → ℕ → ℕ → ℕ → List Count
 counts a b c d = record { 0 = a } ∷ record { 0 = b } ∷ record { 0 = c } ∷ record { 0 = d } ∷ []
@@ -43,7 +44,7 @@ abbrev z8 : List ℕ
 z8 = replicate 8 0
 
 -- a page that nobody reads
-abbrev page : Storage → Flag → List Count → ExcState → LoadingState → WritebackState → Page
+abbrev page : Option ℕ → Flag → List Count → ExcState → LoadingState → Option ℕ → Page
 page s f cs e l w = page_of (head_with s f cs e l w) (listed [])
 
 abbrev fresh : Sample
@@ -53,7 +54,7 @@ fresh = record { page = fresh_page 0; bytes = padded (0 ∷ 1 ∷ []) }
 abbrev pub claim : Sample
 claim = record {
   page =
-      page_of (head_with (Storage.In value) Flag.Claimed (counts 1 1 1 1) (ExcState.Claim (at 2) value) LoadingState.None WritebackState.None)
+      page_of (head_with (Some value) Flag.Claimed (counts 1 1 1 1) (ExcState.Claim (at 2) value) LoadingState.None None)
       (listed (
       record { phase = Phase.Pending; bucket = record { 0 = 0 } }
       ∷ record { phase = Phase.Pending2; bucket = record { 0 = 1 } }
@@ -73,8 +74,8 @@ claim = record {
 abbrev await : Sample
 await = record {
   page =
-      page (Storage.In value) Flag.WritebackAndPendingExcLock (counts 0 0 0 0) (ExcState.PendingAwaitWriteback none value) LoadingState.None
-      (WritebackState.Held value);
+      page (Some value) Flag.WritebackAndPendingExcLock (counts 0 0 0 0) (ExcState.PendingAwaitWriteback none value) LoadingState.None
+      (Some value);
   bytes = padded ((7 ∷ 1 ∷ 0 ∷ 0 ∷ 2 ∷ 255 ∷ 0 ∷ 0 ∷ 0 ∷ 0 ∷ 1 ∷ []) ++ replicate 21 0 ++ v8 ++ v8 ++ v8);
 }
 
@@ -82,8 +83,8 @@ await = record {
 abbrev pending : Sample
 pending = record {
   page =
-      page (Storage.In value) Flag.ExcLockClean (counts 0 1 0 0) (ExcState.Pending (at 1) (record { 0 = 2 }) true value) LoadingState.None
-      WritebackState.None;
+      page (Some value) Flag.ExcLockClean (counts 0 1 0 0) (ExcState.Pending (at 1) (record { 0 = 2 }) true value) LoadingState.None
+      None;
   bytes = padded (
       (9 ∷ 1 ∷ 0 ∷ 0 ∷ 3 ∷ 1 ∷ 2 ∷ 1 ∷ 0 ∷ 0 ∷ 0 ∷ 0 ∷ 0 ∷ 0 ∷ 0 ∷ 0 ∷ 0 ∷ 1 ∷ []) ++ replicate 14 0 ++ v8 ++ v8
       );
@@ -92,7 +93,7 @@ pending = record {
 -- exclusive Obtained without a bucket, not clean: the page is out, and the value that was taken is kept
 abbrev pub editing : Sample
 editing = record {
-  page = page Storage.Out Flag.ExcLockDirty (counts 0 0 0 0) (ExcState.Obtained none false value) LoadingState.None WritebackState.None;
+  page = page None Flag.ExcLockDirty (counts 0 0 0 0) (ExcState.Obtained none false value) LoadingState.None None;
   bytes = padded ((10 ∷ 0 ∷ 0 ∷ 0 ∷ 5 ∷ 255 ∷ []) ++ replicate 34 0 ++ v8);
 }
 
@@ -100,7 +101,7 @@ editing = record {
 abbrev pub editing_clean : Sample
 editing_clean = record {
   page =
-      page Storage.Out Flag.ExcLockClean (counts 0 1 0 0) (ExcState.Obtained (at 1) true value) LoadingState.None WritebackState.None;
+      page None Flag.ExcLockClean (counts 0 1 0 0) (ExcState.Obtained (at 1) true value) LoadingState.None None;
   bytes = padded (
       (9 ∷ 0 ∷ 0 ∷ 0 ∷ 5 ∷ 1 ∷ 0 ∷ 1 ∷ 0 ∷ 0 ∷ 0 ∷ 0 ∷ 0 ∷ 0 ∷ 0 ∷ 0 ∷ 0 ∷ 1 ∷ []) ++ replicate 22 0 ++ v8
       );
@@ -109,25 +110,25 @@ editing_clean = record {
 -- a loader that is Pending, PendingCounted at 3, Obtained at 0, and Obtained without a bucket
 abbrev waiting : Sample
 waiting = record {
-  page = page Storage.Out Flag.LoadingExcLock (counts 0 0 0 0) ExcState.None LoadingState.Pending WritebackState.None;
+  page = page None Flag.LoadingExcLock (counts 0 0 0 0) ExcState.None LoadingState.Pending None;
   bytes = padded (2 ∷ 0 ∷ 0 ∷ 0 ∷ 0 ∷ 0 ∷ 0 ∷ 0 ∷ 1 ∷ []);
 }
 
 abbrev pub counted : Sample
 counted = record {
-  page = page Storage.Out Flag.LoadingExcLock (counts 0 0 0 1) ExcState.None (LoadingState.PendingCounted (at 3)) WritebackState.None;
+  page = page None Flag.LoadingExcLock (counts 0 0 0 1) ExcState.None (LoadingState.PendingCounted (at 3)) None;
   bytes = padded (2 ∷ 0 ∷ 0 ∷ 0 ∷ 0 ∷ 0 ∷ 0 ∷ 0 ∷ 2 ∷ 3 ∷ 0 ∷ 0 ∷ 0 ∷ 0 ∷ 0 ∷ 0 ∷ 0 ∷ 0 ∷ 0 ∷ 1 ∷ []);
 }
 
 abbrev pub loading : Sample
 loading = record {
-  page = page Storage.Out Flag.Loading (counts 1 0 0 0) ExcState.None (LoadingState.Obtained (at 0)) WritebackState.None;
+  page = page None Flag.Loading (counts 1 0 0 0) ExcState.None (LoadingState.Obtained (at 0)) None;
   bytes = padded (1 ∷ 0 ∷ 0 ∷ 0 ∷ 0 ∷ 0 ∷ 0 ∷ 0 ∷ 3 ∷ 0 ∷ 0 ∷ 0 ∷ 0 ∷ 0 ∷ 0 ∷ 0 ∷ 1 ∷ []);
 }
 
 abbrev pub prefetch : Sample
 prefetch = record {
-  page = page Storage.Out Flag.Loading (counts 0 0 0 0) ExcState.None (LoadingState.Obtained none) WritebackState.None;
+  page = page None Flag.Loading (counts 0 0 0 0) ExcState.None (LoadingState.Obtained none) None;
   bytes = padded (1 ∷ 0 ∷ 0 ∷ 0 ∷ 0 ∷ 0 ∷ 0 ∷ 0 ∷ 3 ∷ 255 ∷ []);
 }
 
@@ -218,7 +219,7 @@ pub record Written : Type 0 where
 -- a page that nobody has, and yet is out: 1, whatever the room; a fresh one: 15 where there is too little, and else accepted
 abbrev pub writings : List Written
 writings =
-    let lost = page Storage.Out Flag.Unmapped (counts 0 0 0 0) ExcState.None LoadingState.None WritebackState.None in
+    let lost = page None Flag.Unmapped (counts 0 0 0 0) ExcState.None LoadingState.None None in
     record { page = lost; room = whole_size; number = 1 }
     ∷ record { page = lost; room = whole_size - 1; number = 1 }
     ∷ record { page = fresh_page 0; room = short_size; number = 15 }

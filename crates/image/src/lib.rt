@@ -7,18 +7,15 @@ ghost use Rattle.std.specs.Prelude.{◌≡◌};
 ghost use Rattle.soundness.specs.Soundness.{sound_under};
 ghost use Rattle.image.specs.Keeping.{limits_by, is_image, read_verdict, restored_from, kept_answer, kept_in};
 
-mod same;
-
 use decoding::decode;
 use encoding::{IMAGE, SHORT_IMAGE, encode};
 use kinds::{SHORT_CAPACITY, SHORT_CEILING};
 use page_record::{Page, fresh};
-use requests::{Answer, Refusal, Verdict};
+use requests::{Answer, Refusal};
 use rules::counts_under;
-use same::same;
 use soundness::is_sound;
 
-// A record that was read; a refusal gives a fresh one of 0. An enum may not hold an array, so this is a struct.
+// A record that was read. No Result: `restored_from` and the theorem demand1_image.fresh say that a refusal gives a fresh one of 0.
 #[derive(Clone, Copy)]
 pub struct Restored {
     pub answer: Answer,
@@ -26,6 +23,7 @@ pub struct Restored {
 }
 
 // Whether the page is sound under the limits of an image of this length.
+#[tactic(auto, using(crate::proofs::Lengths::sound_other, crate::proofs::Lengths::sound_short))]
 fn is_sound_by(page: Page, size: usize) -> bool
     ensures { result ≡ sound_under (limits_by size) page }
 {
@@ -33,39 +31,34 @@ fn is_sound_by(page: Page, size: usize) -> bool
     if size != SHORT_IMAGE {
         return sound;
     }
-    let readers = page.readers;
-    let counts = page.ref_counts;
-    sound & ((readers.len <= SHORT_CAPACITY) & counts_under(counts, SHORT_CEILING))
+    sound && page.readers.len <= SHORT_CAPACITY && counts_under(page.ref_counts, SHORT_CEILING)
 }
 
 // Whether the bytes are the image of this page, short where they are.
 fn is_image(page: Page, image: &[u8]) -> bool
     ensures { result ≡ is_image page image.now }
 {
-    let mut again = [0u8; IMAGE];
+    let mut again = [0; IMAGE];
     encode(page, &mut again);
     if image.len() == SHORT_IMAGE {
-        return same(image, &again[..SHORT_IMAGE]);
+        return image == &again[..SHORT_IMAGE];
     }
-    same(image, &again)
+    image == again.as_slice()
 }
 
 // Numbers 15 and 16: what is asked of bytes, and of the page that they say.
 #[tactic(auto, unfolding(crate::specs::Keeping::known_size, crate::specs::Keeping::read_verdict))]
-fn judge(page: Page, image: &[u8]) -> Verdict
+fn judge(page: Page, image: &[u8]) -> Result<(), Refusal>
     ensures { result ≡ read_verdict page image.now }
 {
     let size = image.len();
-    if !((size == SHORT_IMAGE) | (size == IMAGE)) {
-        return Verdict::Failed(Refusal::WrongSize);
+    if size != SHORT_IMAGE && size != IMAGE {
+        return Err(Refusal::WrongSize);
     }
-    if !is_sound_by(page, size) {
-        return Verdict::Failed(Refusal::NotAnImage);
+    if !is_sound_by(page, size) || !is_image(page, image) {
+        return Err(Refusal::NotAnImage);
     }
-    if !is_image(page, image) {
-        return Verdict::Failed(Refusal::NotAnImage);
-    }
-    Verdict::Passed
+    Ok(())
 }
 
 // The record of an image.
@@ -75,15 +68,14 @@ pub fn read(image: &[u8]) -> Restored
 {
     let page = decode(image);
     match judge(page, image) {
-        Verdict::Passed => {
-            let answer = Answer::Accepted;
-            Restored { answer, page }
-        }
-        Verdict::Failed(why) => {
-            let answer = Answer::Refused(why);
-            let page = fresh(0);
-            Restored { answer, page }
-        }
+        Ok(()) => Restored {
+            answer: Answer::Accepted,
+            page,
+        },
+        Err(why) => Restored {
+            answer: Answer::Refused(why),
+            page: fresh(0),
+        },
     }
 }
 

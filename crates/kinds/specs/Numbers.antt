@@ -1,9 +1,10 @@
 -- The number of each flag and of each kind of holder, in the source's order, and back: the bytes of a stored record (RULES 5.5).
 -- Back, any number is taken: one that stands for no kind counts as 0. Of the exclusive kinds 4 is such a number: it was Obtained,
 -- without the value that was taken.
-use Rattle.std.specs.Prelude.{ℕ, Bool, cond, List, [], ◌∷◌, eqb, get_or}
-use Rattle.kinds.specs.declared.{Flag.Flag, Visited.Visited, MaybeBucket.MaybeBucket, Storage.Storage, Phase.Phase}
-use Rattle.kinds.specs.declared.{ExcState.ExcState, LoadingState.LoadingState, WritebackState.WritebackState}
+use Rattle.std.specs.Prelude.{ℕ, Option, Some, None, Bool, cond, List, [], ◌∷◌, eqb, get_or}
+use Rattle.kinds.specs.declared.{Flag.Flag, Visited.Visited, Phase.Phase}
+use Rattle.kinds.specs.declared.{ExcState.ExcState, LoadingState.LoadingState}
+use Rattle.kinds.specs.declared.Bucket.{Bucket}
 
 -- ---- numbers
 
@@ -43,23 +44,23 @@ loading_number (LoadingState.PendingCounted bucket) = 2
 loading_number (LoadingState.Obtained bucket) = 3
 
 -- the writeback, 0 where there is none
-abbrev pub writeback_number : WritebackState → ℕ
-writeback_number WritebackState.None = 0
-writeback_number (WritebackState.Held value) = 1
+abbrev pub writeback_number : Option ℕ → ℕ
+writeback_number None = 0
+writeback_number (Some value) = 1
 
 -- storage, 0 where it is out
-abbrev pub storage_number : Storage → ℕ
-storage_number Storage.Out = 0
-storage_number (Storage.In value) = 1
+abbrev pub storage_number : Option ℕ → ℕ
+storage_number None = 0
+storage_number (Some value) = 1
 
 -- what stands for no bucket
 abbrev pub no_bucket : ℕ
 no_bucket = 255
 
 -- the bucket of a holder that can have one
-abbrev pub bucket_number : MaybeBucket → ℕ
-bucket_number MaybeBucket.None = no_bucket
-bucket_number (MaybeBucket.At bucket) = bucket.0
+abbrev pub bucket_number : Option Bucket → ℕ
+bucket_number None = no_bucket
+bucket_number (Some bucket) = bucket.0
 
 -- ---- back
 -- the flags by their numbers
@@ -82,19 +83,19 @@ unfoldable pub flag_from : ℕ → Flag
 flag_from n = get_or flags n Flag.Unmapped
 
 -- storage, with this value where it is in
-unfoldable pub storage_from : ℕ → ℕ → Storage
-storage_from n value = cond (eqb n 1) (Storage.In value) Storage.Out
+unfoldable pub storage_from : ℕ → ℕ → Option ℕ
+storage_from n value = cond (eqb n 1) (Some value) None
 
 -- a bucket or none
-unfoldable pub bucket_from : ℕ → MaybeBucket
-bucket_from n = cond (eqb n no_bucket) MaybeBucket.None (MaybeBucket.At (record { 0 = n }))
+unfoldable pub bucket_from : ℕ → Option Bucket
+bucket_from n = cond (eqb n no_bucket) None (Some (record { 0 = n }))
 
 -- a reader's phase, with this value where it has one; 0 and 1 are Pending
 unfoldable pub phase_from : ℕ → ℕ → Phase
 phase_from n value = cond (eqb n 2) Phase.Pending2 (cond (eqb n 3) (Phase.Obtained value) Phase.Pending)
 
 -- the exclusive holders by their numbers, each with what its kind has of these; 4 is nobody's
-abbrev pub excs : MaybeBucket → Visited → Bool → ℕ → List ExcState
+abbrev pub excs : Option Bucket → Visited → Bool → ℕ → List ExcState
 excs bucket visited clean value =
     ExcState.None
     ∷ ExcState.Claim bucket value
@@ -104,17 +105,17 @@ excs bucket visited clean value =
     ∷ ExcState.Obtained bucket clean value
     ∷ []
 
-unfoldable pub exc_from : ℕ → MaybeBucket → Visited → Bool → ℕ → ExcState
+unfoldable pub exc_from : ℕ → Option Bucket → Visited → Bool → ℕ → ExcState
 exc_from n bucket visited clean value = get_or (excs bucket visited clean value) n ExcState.None
 
 -- the loaders by their numbers, with this bucket where the kind has one
-abbrev pub loaders : MaybeBucket → List LoadingState
+abbrev pub loaders : Option Bucket → List LoadingState
 loaders bucket =
     LoadingState.None ∷ LoadingState.Pending ∷ LoadingState.PendingCounted bucket ∷ LoadingState.Obtained bucket ∷ []
 
-unfoldable pub loading_from : ℕ → MaybeBucket → LoadingState
+unfoldable pub loading_from : ℕ → Option Bucket → LoadingState
 loading_from n bucket = get_or (loaders bucket) n LoadingState.None
 
 -- the writeback, with this value where there is one
-unfoldable pub writeback_from : ℕ → ℕ → WritebackState
-writeback_from n value = cond (eqb n 1) (WritebackState.Held value) WritebackState.None
+unfoldable pub writeback_from : ℕ → ℕ → Option ℕ
+writeback_from n value = cond (eqb n 1) (Some value) None

@@ -10,114 +10,49 @@ use crate::Flag;
 pub fn is_available(f: Flag) -> bool
     ensures { result ≡ is_available f }
 {
-    match f {
-        Flag::Unmapped => false,
-        Flag::Loading => false,
-        Flag::LoadingExcLock => false,
-        Flag::Available => true,
-        Flag::Claimed => false,
-        Flag::Writeback => false,
-        Flag::WritebackAndClaimed => false,
-        Flag::WritebackAndPendingExcLock => false,
-        Flag::PendingExcLock => false,
-        Flag::ExcLockClean => false,
-        Flag::ExcLockDirty => false,
-    }
+    f == Flag::Available
 }
 
 // The flag premise of steps 3 and 4.
 pub fn claimable(f: Flag) -> bool
     ensures { result ≡ claimable f }
 {
-    match f {
-        Flag::Unmapped => false,
-        Flag::Loading => false,
-        Flag::LoadingExcLock => false,
-        Flag::Available => true,
-        Flag::Claimed => false,
-        Flag::Writeback => true,
-        Flag::WritebackAndClaimed => false,
-        Flag::WritebackAndPendingExcLock => false,
-        Flag::PendingExcLock => false,
-        Flag::ExcLockClean => false,
-        Flag::ExcLockDirty => false,
-    }
+    matches!(f, Flag::Available | Flag::Writeback)
 }
 
-// The flag premise of step 6: neither Writeback nor WritebackAndPendingExcLock.
+// The flag premise of step 6.
 pub fn writeback_done(f: Flag) -> bool
     ensures { result ≡ writeback_done f }
 {
-    match f {
-        Flag::Unmapped => true,
-        Flag::Loading => true,
-        Flag::LoadingExcLock => true,
-        Flag::Available => true,
-        Flag::Claimed => true,
-        Flag::Writeback => false,
-        Flag::WritebackAndClaimed => true,
-        Flag::WritebackAndPendingExcLock => false,
-        Flag::PendingExcLock => true,
-        Flag::ExcLockClean => true,
-        Flag::ExcLockDirty => true,
-    }
+    !matches!(f, Flag::Writeback | Flag::WritebackAndPendingExcLock)
 }
 
 // The flag premise of steps 11 and 12.
 pub fn is_unmapped(f: Flag) -> bool
     ensures { result ≡ is_unmapped f }
 {
-    match f {
-        Flag::Unmapped => true,
-        Flag::Loading => false,
-        Flag::LoadingExcLock => false,
-        Flag::Available => false,
-        Flag::Claimed => false,
-        Flag::Writeback => false,
-        Flag::WritebackAndClaimed => false,
-        Flag::WritebackAndPendingExcLock => false,
-        Flag::PendingExcLock => false,
-        Flag::ExcLockClean => false,
-        Flag::ExcLockDirty => false,
-    }
+    f == Flag::Unmapped
 }
 
 // The flag premise of step 23: a reader passes the first check.
 pub fn open_to_readers(f: Flag) -> bool
     ensures { result ≡ open_to_readers f }
 {
-    match f {
-        Flag::Unmapped => false,
-        Flag::Loading => true,
-        Flag::LoadingExcLock => false,
-        Flag::Available => true,
-        Flag::Claimed => true,
-        Flag::Writeback => true,
-        Flag::WritebackAndClaimed => true,
-        Flag::WritebackAndPendingExcLock => false,
-        Flag::PendingExcLock => false,
-        Flag::ExcLockClean => false,
-        Flag::ExcLockDirty => false,
-    }
+    matches!(
+        f,
+        Flag::Loading
+            | Flag::Available
+            | Flag::Claimed
+            | Flag::Writeback
+            | Flag::WritebackAndClaimed
+    )
 }
 
 // The flag premise of step 24.
 pub fn not_loading(f: Flag) -> bool
     ensures { result ≡ not_loading f }
 {
-    match f {
-        Flag::Unmapped => true,
-        Flag::Loading => false,
-        Flag::LoadingExcLock => true,
-        Flag::Available => true,
-        Flag::Claimed => true,
-        Flag::Writeback => true,
-        Flag::WritebackAndClaimed => true,
-        Flag::WritebackAndPendingExcLock => true,
-        Flag::PendingExcLock => true,
-        Flag::ExcLockClean => true,
-        Flag::ExcLockDirty => true,
-    }
+    f != Flag::Loading
 }
 
 // The flag after step 2. The other flags can't stand beside a writeback, and stay.
@@ -125,17 +60,10 @@ pub fn released(f: Flag) -> Flag
     ensures { result ≡ released f }
 {
     match f {
-        Flag::Unmapped => Flag::Unmapped,
-        Flag::Loading => Flag::Loading,
-        Flag::LoadingExcLock => Flag::LoadingExcLock,
-        Flag::Available => Flag::Available,
-        Flag::Claimed => Flag::Claimed,
         Flag::Writeback => Flag::Available,
         Flag::WritebackAndClaimed => Flag::Claimed,
         Flag::WritebackAndPendingExcLock => Flag::PendingExcLock,
-        Flag::PendingExcLock => Flag::PendingExcLock,
-        Flag::ExcLockClean => Flag::ExcLockClean,
-        Flag::ExcLockDirty => Flag::ExcLockDirty,
+        other => other,
     }
 }
 
@@ -144,17 +72,9 @@ pub fn claimed(f: Flag) -> Flag
     ensures { result ≡ claimed f }
 {
     match f {
-        Flag::Unmapped => Flag::Unmapped,
-        Flag::Loading => Flag::Loading,
-        Flag::LoadingExcLock => Flag::LoadingExcLock,
         Flag::Available => Flag::Claimed,
-        Flag::Claimed => Flag::Claimed,
         Flag::Writeback => Flag::WritebackAndClaimed,
-        Flag::WritebackAndClaimed => Flag::WritebackAndClaimed,
-        Flag::WritebackAndPendingExcLock => Flag::WritebackAndPendingExcLock,
-        Flag::PendingExcLock => Flag::PendingExcLock,
-        Flag::ExcLockClean => Flag::ExcLockClean,
-        Flag::ExcLockDirty => Flag::ExcLockDirty,
+        other => other,
     }
 }
 
@@ -163,17 +83,9 @@ pub fn awaited(f: Flag) -> Flag
     ensures { result ≡ awaited f }
 {
     match f {
-        Flag::Unmapped => Flag::Unmapped,
-        Flag::Loading => Flag::Loading,
-        Flag::LoadingExcLock => Flag::LoadingExcLock,
-        Flag::Available => Flag::Available,
         Flag::Claimed => Flag::PendingExcLock,
-        Flag::Writeback => Flag::Writeback,
         Flag::WritebackAndClaimed => Flag::WritebackAndPendingExcLock,
-        Flag::WritebackAndPendingExcLock => Flag::WritebackAndPendingExcLock,
-        Flag::PendingExcLock => Flag::PendingExcLock,
-        Flag::ExcLockClean => Flag::ExcLockClean,
-        Flag::ExcLockDirty => Flag::ExcLockDirty,
+        other => other,
     }
 }
 
@@ -193,17 +105,9 @@ pub fn unclaimed(f: Flag) -> Flag
     ensures { result ≡ unclaimed f }
 {
     match f {
-        Flag::Unmapped => Flag::Unmapped,
-        Flag::Loading => Flag::Loading,
-        Flag::LoadingExcLock => Flag::LoadingExcLock,
-        Flag::Available => Flag::Available,
         Flag::Claimed => Flag::Available,
-        Flag::Writeback => Flag::Writeback,
         Flag::WritebackAndClaimed => Flag::Writeback,
-        Flag::WritebackAndPendingExcLock => Flag::WritebackAndPendingExcLock,
-        Flag::PendingExcLock => Flag::PendingExcLock,
-        Flag::ExcLockClean => Flag::ExcLockClean,
-        Flag::ExcLockDirty => Flag::ExcLockDirty,
+        other => other,
     }
 }
 
@@ -212,17 +116,18 @@ pub fn unawaited(f: Flag) -> Flag
     ensures { result ≡ unawaited f }
 {
     match f {
-        Flag::Unmapped => Flag::Unmapped,
-        Flag::Loading => Flag::Loading,
-        Flag::LoadingExcLock => Flag::LoadingExcLock,
-        Flag::Available => Flag::Available,
-        Flag::Claimed => Flag::Claimed,
-        Flag::Writeback => Flag::Writeback,
-        Flag::WritebackAndClaimed => Flag::WritebackAndClaimed,
         Flag::WritebackAndPendingExcLock => Flag::WritebackAndClaimed,
         Flag::PendingExcLock => Flag::Claimed,
-        Flag::ExcLockClean => Flag::ExcLockClean,
-        Flag::ExcLockDirty => Flag::ExcLockDirty,
+        other => other,
+    }
+}
+
+// A flag's place in the enum, which lists them in the source's order.
+impl From<Flag> for u8 {
+    ghost from_gives = { λ f n. n ≡ flag_number f };
+
+    fn from(f: Flag) -> u8 {
+        f as u8
     }
 }
 
@@ -230,17 +135,5 @@ pub fn unawaited(f: Flag) -> Flag
 pub fn flag_number(f: Flag) -> u8
     ensures { result ≡ flag_number f }
 {
-    match f {
-        Flag::Unmapped => 0,
-        Flag::Loading => 1,
-        Flag::LoadingExcLock => 2,
-        Flag::Available => 3,
-        Flag::Claimed => 4,
-        Flag::Writeback => 5,
-        Flag::WritebackAndClaimed => 6,
-        Flag::WritebackAndPendingExcLock => 7,
-        Flag::PendingExcLock => 8,
-        Flag::ExcLockClean => 9,
-        Flag::ExcLockDirty => 10,
-    }
+    u8::from(f)
 }

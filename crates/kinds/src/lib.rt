@@ -11,8 +11,8 @@ pub use flags::{
     open_to_readers, released, unawaited, unclaimed, writeback_done,
 };
 pub use numbers::{
-    bucket_from, bucket_number, exc_from, exc_number, flag_from, loading_from, loading_number,
-    phase_from, storage_from, storage_number, writeback_from, writeback_number,
+    UnknownFlag, bucket_from, bucket_number, exc_from, exc_number, flag_from, loading_from,
+    loading_number, phase_from, storage_from, storage_number, writeback_from, writeback_number,
 };
 pub use phases::phase_number;
 
@@ -38,18 +38,19 @@ pub const MOST_REQUESTS: usize = 2048;
 pub const LINE: usize = 16;
 
 // Which reference count a holder uses, 0 to 3.
-#[derive(Clone, Copy)]
+#[derive(Clone, Copy, PartialEq, Eq)]
 pub struct Bucket(pub u8);
 
 // How many buckets an editor has looked at, 0 to 4.
-#[derive(Clone, Copy)]
+#[derive(Clone, Copy, PartialEq, Eq)]
 pub struct Visited(pub u8);
 
 // How many hold a bucket, up to the ceiling.
-#[derive(Clone, Copy)]
+#[derive(Clone, Copy, PartialEq, Eq)]
 pub struct Count(pub u8);
 
-#[derive(Clone, Copy)]
+// In the source's order, which gives a flag its number.
+#[derive(Clone, Copy, PartialEq, Eq)]
 pub enum Flag {
     Unmapped,
     Loading,
@@ -64,70 +65,51 @@ pub enum Flag {
     ExcLockDirty,
 }
 
-// The page's version where it is in, or nothing where it was handed out.
-#[derive(Clone, Copy)]
-pub enum Storage {
-    Out,
-    In(u64),
-}
-
-#[derive(Clone, Copy)]
-pub enum MaybeBucket {
-    None,
-    At(Bucket),
-}
-
 // How far a reader has come; one that has come through holds the version that it reads.
-#[derive(Clone, Copy)]
+#[derive(Clone, Copy, PartialEq, Eq)]
 pub enum Phase {
     Pending,
     Pending2,
     Obtained(u64),
 }
 
-#[derive(Clone, Copy)]
+#[derive(Clone, Copy, PartialEq, Eq)]
 pub struct Reader {
     pub phase: Phase,
     pub bucket: Bucket,
 }
 
-// The editor. One that has the page out keeps the version that it took.
-#[derive(Clone, Copy)]
+// The editor. One that has the page out keeps the version that it took. None is a kind of its own, as it is one of the loader's: a
+// rule or a step asks which of all the kinds stands there, and an Option of the others would be asked in two turns.
+#[derive(Clone, Copy, PartialEq, Eq)]
 pub enum ExcState {
     None,
     Claim {
-        bucket: MaybeBucket,
+        bucket: Option<Bucket>,
         value: u64,
     },
     PendingAwaitWriteback {
-        bucket: MaybeBucket,
+        bucket: Option<Bucket>,
         value: u64,
     },
     Pending {
-        bucket: MaybeBucket,
+        bucket: Option<Bucket>,
         visited_count: Visited,
         clean: bool,
         value: u64,
     },
     Obtained {
-        bucket: MaybeBucket,
+        bucket: Option<Bucket>,
         clean: bool,
         value: u64,
     },
 }
 
 // The loader.
-#[derive(Clone, Copy)]
+#[derive(Clone, Copy, PartialEq, Eq)]
 pub enum LoadingState {
     None,
     Pending,
-    PendingCounted { bucket: MaybeBucket },
-    Obtained { bucket: MaybeBucket },
-}
-
-// The archive.
-#[derive(Clone, Copy)]
-pub enum WritebackState {
-    None,
-    Held { value: u64 },
+    PendingCounted { bucket: Option<Bucket> },
+    Obtained { bucket: Option<Bucket> },
 }

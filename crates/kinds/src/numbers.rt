@@ -1,34 +1,27 @@
 // The kinds of holders as numbers, in the source's order, and back: the bytes of a stored record. Back, any number is taken: one
 // that stands for no kind counts as 0. Of the exclusive kinds 4 is such a number: it was Obtained, without the value that was taken.
-ghost use Rattle.std.specs.Prelude.{◌≡◌};
-ghost use Rattle.kinds.specs.Numbers.{storage_number, bucket_number, exc_number, loading_number, writeback_number};
+// Only a flag and its number are conversions: a holder's number leaves out what it carries, and none has the number of bucket 255.
+ghost use Rattle.std.specs.Prelude.{◌≡◌, ◌<◌, MatchResult};
+ghost use Rattle.kinds.specs.Numbers.{flag_number, storage_number, bucket_number, exc_number, loading_number, writeback_number};
 ghost use Rattle.kinds.specs.Numbers.{flag_from, storage_from, bucket_from, phase_from, exc_from, loading_from, writeback_from};
 
-use crate::{
-    Bucket, ExcState, Flag, LoadingState, MaybeBucket, Phase, Storage, Visited, WritebackState,
-};
+use crate::{Bucket, ExcState, Flag, LoadingState, Phase, Visited};
 
 // What stands for no bucket.
 const NO_BUCKET: u8 = 255;
 
 // 1 where storage is in, else 0.
-pub fn storage_number(s: Storage) -> u8
+pub fn storage_number(s: Option<u64>) -> u8
     ensures { result ≡ storage_number s }
 {
-    match s {
-        Storage::Out => 0,
-        Storage::In(_) => 1,
-    }
+    s.is_some() as u8
 }
 
 // A bucket, or the number of none.
-pub fn bucket_number(b: MaybeBucket) -> u8
+pub fn bucket_number(b: Option<Bucket>) -> u8
     ensures { result ≡ bucket_number b }
 {
-    match b {
-        MaybeBucket::None => NO_BUCKET,
-        MaybeBucket::At(bucket) => bucket.0,
-    }
+    b.map_or(NO_BUCKET, |bucket| bucket.0)
 }
 
 // The exclusive holder's number, 1 to 3 and 5, or 0 where there is none.
@@ -56,59 +49,62 @@ pub fn loading_number(l: LoadingState) -> u8
     }
 }
 
-// 1 where there is a writeback, else 0.
-pub fn writeback_number(w: WritebackState) -> u8
+// 1 where there is a writeback, else 0: as storage's.
+pub fn writeback_number(w: Option<u64>) -> u8
     ensures { result ≡ writeback_number w }
 {
-    match w {
-        WritebackState::None => 0,
-        WritebackState::Held { .. } => 1,
+    storage_number(w)
+}
+
+// A number that is no flag's.
+#[derive(Clone, Copy, Debug, PartialEq, Eq)]
+pub struct UnknownFlag(pub u8);
+
+impl TryFrom<u8> for Flag {
+    type Error = UnknownFlag;
+
+    ghost try_from_gives = { λ n r. MatchResult r (λ f. flag_number f ≡ n) (λ e. (e.0 ≡ n) × (10 < n)) };
+
+    fn try_from(number: u8) -> Result<Flag, UnknownFlag> {
+        match number {
+            0 => Ok(Flag::Unmapped),
+            1 => Ok(Flag::Loading),
+            2 => Ok(Flag::LoadingExcLock),
+            3 => Ok(Flag::Available),
+            4 => Ok(Flag::Claimed),
+            5 => Ok(Flag::Writeback),
+            6 => Ok(Flag::WritebackAndClaimed),
+            7 => Ok(Flag::WritebackAndPendingExcLock),
+            8 => Ok(Flag::PendingExcLock),
+            9 => Ok(Flag::ExcLockClean),
+            10 => Ok(Flag::ExcLockDirty),
+            _ => Err(UnknownFlag(number)),
+        }
     }
 }
 
-// The flag of a number.
+// The flag of a number; one that is no flag's counts as 0.
 #[tactic(auto, unfolding(crate::specs::Numbers::flag_from))]
 pub fn flag_from(number: u8) -> Flag
     ensures { result ≡ flag_from number }
 {
-    match number {
-        0 => Flag::Unmapped,
-        1 => Flag::Loading,
-        2 => Flag::LoadingExcLock,
-        3 => Flag::Available,
-        4 => Flag::Claimed,
-        5 => Flag::Writeback,
-        6 => Flag::WritebackAndClaimed,
-        7 => Flag::WritebackAndPendingExcLock,
-        8 => Flag::PendingExcLock,
-        9 => Flag::ExcLockClean,
-        10 => Flag::ExcLockDirty,
-        _ => Flag::Unmapped,
-    }
+    Flag::try_from(number).unwrap_or(Flag::Unmapped)
 }
 
 // Storage of a number, with this value where it is in.
 #[tactic(auto, unfolding(crate::specs::Numbers::storage_from))]
-pub fn storage_from(number: u8, value: u64) -> Storage
+pub fn storage_from(number: u8, value: u64) -> Option<u64>
     ensures { result ≡ storage_from number value }
 {
-    if number == 1 {
-        Storage::In(value)
-    } else {
-        Storage::Out
-    }
+    (number == 1).then_some(value)
 }
 
 // The bucket of a number, or none.
 #[tactic(auto, unfolding(crate::specs::Numbers::bucket_from))]
-pub fn bucket_from(number: u8) -> MaybeBucket
+pub fn bucket_from(number: u8) -> Option<Bucket>
     ensures { result ≡ bucket_from number }
 {
-    if number == NO_BUCKET {
-        MaybeBucket::None
-    } else {
-        MaybeBucket::At(Bucket(number))
-    }
+    (number != NO_BUCKET).then_some(Bucket(number))
 }
 
 // A reader's phase, with this value where it has one.
@@ -127,7 +123,7 @@ pub fn phase_from(number: u8, value: u64) -> Phase
 #[tactic(auto, unfolding(crate::specs::Numbers::exc_from))]
 pub fn exc_from(
     number: u8,
-    bucket: MaybeBucket,
+    bucket: Option<Bucket>,
     visited_count: Visited,
     clean: bool,
     value: u64,
@@ -135,7 +131,6 @@ pub fn exc_from(
     ensures { result ≡ exc_from number bucket visited_count clean value }
 {
     match number {
-        0 => ExcState::None,
         1 => ExcState::Claim { bucket, value },
         2 => ExcState::PendingAwaitWriteback { bucket, value },
         3 => ExcState::Pending {
@@ -144,7 +139,6 @@ pub fn exc_from(
             clean,
             value,
         },
-        4 => ExcState::None,
         5 => ExcState::Obtained {
             bucket,
             clean,
@@ -156,11 +150,10 @@ pub fn exc_from(
 
 // The loader of a number, with this bucket where its kind has one.
 #[tactic(auto, unfolding(crate::specs::Numbers::loading_from))]
-pub fn loading_from(number: u8, bucket: MaybeBucket) -> LoadingState
+pub fn loading_from(number: u8, bucket: Option<Bucket>) -> LoadingState
     ensures { result ≡ loading_from number bucket }
 {
     match number {
-        0 => LoadingState::None,
         1 => LoadingState::Pending,
         2 => LoadingState::PendingCounted { bucket },
         3 => LoadingState::Obtained { bucket },
@@ -168,14 +161,10 @@ pub fn loading_from(number: u8, bucket: MaybeBucket) -> LoadingState
     }
 }
 
-// The writeback of a number, with this value where there is one.
-#[tactic(auto, unfolding(crate::specs::Numbers::writeback_from))]
-pub fn writeback_from(number: u8, value: u64) -> WritebackState
+// The writeback of a number, with this value where there is one: as storage's.
+#[tactic(auto, unfolding(crate::specs::Numbers::writeback_from, crate::specs::Numbers::storage_from))]
+pub fn writeback_from(number: u8, value: u64) -> Option<u64>
     ensures { result ≡ writeback_from number value }
 {
-    if number == 1 {
-        WritebackState::Held { value }
-    } else {
-        WritebackState::None
-    }
+    storage_from(number, value)
 }

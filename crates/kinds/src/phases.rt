@@ -1,4 +1,4 @@
-// A reader's phase as a number.
+// A reader's phase as a number, which leaves out the version that it holds.
 ghost use Rattle.std.specs.Prelude.{◌≡◌};
 ghost use Rattle.kinds.specs.Numbers.{phase_number};
 

@@ -2,6 +2,7 @@ pub mod Tests
 pub mod Orders
 pub mod Lists
 pub mod Turns
+pub mod Words
 pub mod Parts
 pub mod Cuts
 pub mod Arms

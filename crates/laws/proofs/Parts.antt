@@ -15,7 +15,7 @@ module _ {A : Type 0} where
   pub rest_is : (at : ℕ) (l : List A) → take (length l - at) (drop at l) ≡ drop at l
   rest_is at l = take_all (length l - at) (drop at l) (simp length-drop (omega arith))
 
-  -- ---- what is copied over the first of a slice, as `bytes::copy` says it
+  -- ---- what is copied over the first of a slice
   module _ (from old ys : List A) (made : ys ≡ take (length from) from ++ drop (length from) old) where
     pub copied : ys ≡ from ++ drop (length from) old
     copied = made ∙ ap (λ (z : List A). z ++ drop (length from) old) (take-length from)

@@ -1,6 +1,7 @@
 -- Lists of anything: how many entries pass a test, whether all do, a list without one of its entries, one that is cut into parts, and
 -- two lists that differ in their order alone. And whether a number is one of a list.
-use Rattle.std.specs.Prelude.{ℕ, zero, suc, ◌+◌, ◌-◌, ◌≡◌, Bool, true, false, cond, ◌&&◌, ◌||◌, List, [], ◌∷◌, ◌++◌, eqb, length, take, drop}
+use Rattle.std.specs.Prelude.{ℕ, zero, suc, ◌+◌, ◌-◌, ◌≡◌, Bool, false, cond, ◌||◌, List, [], ◌∷◌, ◌++◌, eqb, length, take, drop}
+use Rattle.std.specs.List.{list_all}
 
 -- how many entries pass the test
 abbrev pub tally : {A : Type 0} → (A → Bool) → List A → ℕ
@@ -9,8 +10,7 @@ tally test (x ∷ xs) = cond (test x) 1 0 + tally test xs
 
 -- whether all entries pass the test
 abbrev pub every : {A : Type 0} → (A → Bool) → List A → Bool
-every test [] = true
-every test (x ∷ xs) = test x && every test xs
+every test l = list_all test l
 
 -- the last entry put first, and then the others in their order
 abbrev pub last_first : {A : Type 0} → List A → List A

@@ -8,13 +8,14 @@ pub mod Laws
 pub mod Granted
 pub mod AllowedAccepted
 pub mod AcceptedAllowed
+use Rattle.std.specs.Prelude.{Option, Result, Ok, Err, ℕ}
 use mathlib.Core.Path.{◌≡◌, refl, sym, ap, ◌∙◌, subst}
 use mathlib.Core.Logic.{◌↔◌}
 use mathlib.Core.Bool.{Bool, true, false}
 use mathlib.Core.List.{List}
 use lib.Dec.{T}
 use Rattle.laws.proofs.Tests.{is_true}
-use Rattle.kinds.specs.declared.{Reader.Reader, Storage.Storage}
+use Rattle.kinds.specs.declared.Reader.{Reader}
 use Rattle.readers.specs.Listed.{live, listed}
 use Rattle.readers.proofs.Bridge.{live_listed}
 use Rattle.page_record.specs.declared.{Head.Head, Page.Page}
@@ -22,7 +23,7 @@ use Rattle.page_record.specs.Pages.{head_of, page_of}
 use Rattle.soundness.specs.Soundness.{sound_of}
 use Rattle.soundness.proofs.Facts.{Sound}
 use Rattle.soundness.proofs.Tested.{facts}
-use Rattle.requests.specs.declared.{Refusal.Refusal, Verdict.Verdict, Request.Request}
+use Rattle.requests.specs.declared.{Refusal.Refusal, Request.Request}
 use Rattle.requests.specs.Requests.{judged}
 use Rattle.requests.proofs.Formed.{formed}
 use Rattle.heads.specs.declared.Decision.{Decision}
@@ -36,8 +37,8 @@ use Rattle.lock.proofs.Exact.AllowedAccepted.{takes}
 use Rattle.lock.proofs.Exact.AcceptedAllowed.{told}
 
 -- ---- over a head and a list of readers
-pub exact_parts : (h : Head) (l : List Reader) (q : Request) → Sound h l → judged q ≡ Verdict.Passed
-    → (h' : Head) (l' : List Reader) (out : Storage)
+pub exact_parts : (h : Head) (l : List Reader) (q : Request) → Sound h l → judged q ≡ Ok tt
+    → (h' : Head) (l' : List Reader) (out : Option ℕ)
     → Accepts (decided_on h l q) l h' l' out ↔ (Moves (state_with h l) q (state_with h' l') out × Room (state_with h l) q)
 exact_parts h l q s ok h' l' out = (
   (λ a.
@@ -49,10 +50,10 @@ exact_parts h l q s ok h' l' out = (
 
 -- ---- over pages
 -- the step is accepted, hands this out, and leaves this page
-abbrev pub AcceptsPage : Page → Request → Page → Storage → Type 0
+abbrev pub AcceptsPage : Page → Request → Page → Option ℕ → Type 0
 AcceptsPage p q p' out = step_of p q ≡ record { answer = answer_of out; page = p' }
 
-module _ (p p' : Page) (q : Request) (out : Storage) where
+module _ (p p' : Page) (q : Request) (out : Option ℕ) where
   -- what a decision makes of a page, and what it makes of head and list
   module _ (d : Decision) (l : List Reader) where
     to_parts : outcome_of l d ≡ record { answer = answer_of out; page = p' }
@@ -77,13 +78,13 @@ module _ (p p' : Page) (q : Request) (out : Storage) where
       l : List Reader
       l = live p.readers
 
-      to : (t : Bool) → sound_of p ≡ t → (v : Verdict) → judged q ≡ v → AcceptsPage p q p' out → Allowed p q p' out
-      to true sound Verdict.Passed ok e =
+      to : (t : Bool) → sound_of p ≡ t → (v : Result (Unit {0}) Refusal) → judged q ≡ v → AcceptsPage p q p' out → Allowed p q p' out
+      to true sound (Ok _) ok e =
           let t = is_true sound in
           let a = to_parts (decided_on (head_of p) l q) l (sym (step_listed q ok p t) ∙ e) in
           let m = (exact_parts (head_of p) l q (facts p t).parts ok (head_of p') (live p'.readers) out).0 a.0 in
           record { sound = t; well_formed = ok; moves = m.0; room = m.1; neat = a.1 }
-      to true sound (Verdict.Failed why) ok e =
+      to true sound (Err why) ok e =
           absurd (unrefused why out (ap (λ (o : Outcome). o.answer) (sym (unfit_stays p q why (is_true sound) ok) ∙ e)))
       to false sound v ok e =
           absurd (unrefused Refusal.Unsound out (ap (λ (o : Outcome). o.answer) (sym (unsound_stays p q sound) ∙ e)))
@@ -108,7 +109,7 @@ head_in r = record {
 
 -- two moves of one request on one sound page agree in the state after and in what is handed out
 pub no_second_move : (p : Page) (q : Request) → T (sound_of p) → Room (state_of p) q
-    → (post post'' : RwLock) (out out'' : Storage) → Moves (state_of p) q post out → Moves (state_of p) q post'' out''
+    → (post post'' : RwLock) (out out'' : Option ℕ) → Moves (state_of p) q post out → Moves (state_of p) q post'' out''
     → (post ≡ post'') × (out ≡ out'')
 no_second_move p q t room post post'' out out'' m n =
     let l = live p.readers in

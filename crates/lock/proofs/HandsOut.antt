@@ -1,5 +1,6 @@
 -- A value is handed out just where the step is 8, 11 or 12 and accepted (`hands_out_lem`), for every page and request. Which steps
 -- answer with a value is computed over the table of steps. Assumes nothing.
+use Rattle.std.specs.Prelude.{Option, Result, Ok, Err, ℕ}
 use mathlib.Core.Path.{◌≡◌, refl, ◌∙◌}
 use mathlib.Core.Bool.{Bool, true, false, ◌&&◌, cond}
 use lib.Dec.{T, eqb, leb}
@@ -7,12 +8,11 @@ use lib.ListN.{get_or}
 use Rattle.laws.specs.Lists.{among}
 use Rattle.laws.proofs.Pick.{agree_below}
 use Rattle.kinds.specs.Limits.{capacity}
-use Rattle.readers.specs.declared.Found.{Found}
 use Rattle.readers.specs.Listed.{live}
 use Rattle.page_record.specs.declared.{Head.Head, Page.Page}
 use Rattle.page_record.specs.Pages.{head_of}
 use Rattle.soundness.specs.Soundness.{sound_of}
-use Rattle.requests.specs.declared.{Refusal.Refusal, Request.Request, Answer.Answer, Verdict.Verdict}
+use Rattle.requests.specs.declared.{Refusal.Refusal, Request.Request, Answer.Answer}
 use Rattle.requests.specs.Answers.{answer_number, withdraws}
 use Rattle.requests.specs.Premises.{verdict}
 use Rattle.requests.specs.Requests.{past_last, is_step, formal, judged}
@@ -29,7 +29,7 @@ use Rattle.lock.proofs.Least.Numbered.{accepts_all}
 refused_hands : (why : Refusal) (t : Bool) → withdraws (Answer.Refused why) ≡ (eqb (answer_number (Answer.Refused why)) 0 && t)
 refused_hands why t = rw (refusal_positive why)
 
-module _ (h : Head) (q : Request) (found : Found) (full : Bool) where
+module _ (h : Head) (q : Request) (found : Option ℕ) (full : Bool) where
   -- the step that the request names answers with a value just if it is one of the three
   named_hands : T (is_step q.step) → withdraws (step_at h q found full).answer ≡ among handing_out q.step
   named_hands t =
@@ -42,22 +42,22 @@ module _ (h : Head) (q : Request) (found : Found) (full : Bool) where
   unfolding decide_of
   decided_hands t = go (verdict (step_at h q found full).premises)
     where
-      go : (v : Verdict)
+      go : (v : Result (Unit {0}) Refusal)
           → withdraws (settled h (step_at h q found full) v).answer
           ≡ (eqb (answer_number (settled h (step_at h q found full) v).answer) 0 && among handing_out q.step)
-      go Verdict.Passed = named_hands t ∙ rw (accepts_all h q found full)
-      go (Verdict.Failed why) = refused_hands why (among handing_out q.step)
+      go (Ok _) = named_hands t ∙ rw (accepts_all h q found full)
+      go (Err why) = refused_hands why (among handing_out q.step)
 
 pub hands_out_lem : (p : Page) (q : Request)
     → withdraws (step_of p q).answer ≡ (eqb (answer_number (step_of p q).answer) 0 && among handing_out q.step)
 unfolding step_of judged
 hands_out_lem p q = go (sound_of p) (judged q) refl
   where
-    go : (t : Bool) (v : Verdict) → judged q ≡ v
+    go : (t : Bool) (v : Result (Unit {0}) Refusal) → judged q ≡ v
         → withdraws (cond t (stepped p q v) (refused_by p Refusal.Unsound)).answer
         ≡ (eqb (answer_number (cond t (stepped p q v) (refused_by p Refusal.Unsound)).answer) 0 && among handing_out q.step)
     go false v e = refl
-    go true (Verdict.Failed why) e = refused_hands why (among handing_out q.step)
-    go true Verdict.Passed e =
+    go true (Err why) e = refused_hands why (among handing_out q.step)
+    go true (Ok _) e =
         decided_hands (head_of p) q (look_for (live p.readers) (sought_of q)) (leb capacity p.readers.len)
         (passed (formal q) e).0

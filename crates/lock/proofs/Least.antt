@@ -3,6 +3,7 @@
 -- (`number_none`). 1 is the page's, 2 to 4 are the request's, 5 to 11 and 17 the step's own (Least/Tables.antt). Assumes nothing.
 pub mod Numbered
 pub mod Tables
+use Rattle.std.specs.Prelude.{Result, Ok, Err}
 use Prim.Native.Nat.{ℕ, ◌≤◌}
 use mathlib.Core.Path.{◌≡◌, refl, sym, ap, ◌∙◌}
 use mathlib.Core.Logic.{◌↔◌}
@@ -18,7 +19,8 @@ use Rattle.readers.specs.Listed.{live}
 use Rattle.page_record.specs.declared.Page.{Page}
 use Rattle.page_record.specs.Pages.{head_of}
 use Rattle.soundness.specs.Soundness.{sound_of}
-use Rattle.requests.specs.declared.{Request.Request, Verdict.Verdict}
+use Rattle.requests.specs.declared.Request.{Request}
+use Rattle.requests.specs.declared.Refusal.{Refusal}
 use Rattle.requests.specs.Answers.{answer_number, verdict_number}
 use Rattle.requests.specs.Requests.{is_step, formal, judged}
 use Rattle.requests.specs.Applies.{applying_fields}
@@ -33,19 +35,19 @@ use Rattle.lock.proofs.Least.Tables.{Bounds, bounds, tabled_at}
 
 module _ (p : Page) (q : Request) where
   -- where page and fields are in order, the step's own number
-  decided_no : Bounds p → T (is_step q.step) → answer_number (stepped p q Verdict.Passed).answer ≡ first_applying (applying_step p q)
+  decided_no : Bounds p → T (is_step q.step) → answer_number (stepped p q (Ok tt)).answer ≡ first_applying (applying_step p q)
   decided_no within t =
       decided_number (head_of p) q (look_for (live p.readers) (sought_of q)) (leb capacity p.readers.len)
       ∙ tabled_at p within q t
 
   -- on a sound page, the fields' number comes first
-  judged_no : Bounds p → (v : Verdict) → judged q ≡ v
+  judged_no : Bounds p → (v : Result (Unit {0}) Refusal) → judged q ≡ v
       → answer_number (stepped p q v).answer ≡ first_applying (applying_fields q ++ applying_step p q)
   unfolding judged
-  judged_no within Verdict.Passed e =
+  judged_no within (Ok _) e =
       let none = sym (judged_number q) ∙ ap verdict_number e in
       decided_no within (passed (formal q) e).0 ∙ sym (first_after (applying_fields q) (applying_step p q) tt none)
-  judged_no within (Verdict.Failed why) e =
+  judged_no within (Err why) e =
       let here = sym (judged_number q) ∙ ap verdict_number e in
       sym (first_before (applying_fields q) (applying_step p q) (omega (arith, here, refusal_above why)) ∙ here)
 

@@ -3,5 +3,5 @@ pub mod Reach
 pub mod Least
 pub mod Exact
 pub mod HandsOut
-pub mod Machine
+pub mod Lent
 pub mod Order

@@ -2,6 +2,7 @@
 -- again such two (`order_free`). Over a head and two lists (`decided_alike`): the same reader is found in both or in neither, and what is
 -- decided differs in its place alone. Assumes nothing.
 pub mod Places
+use Rattle.std.specs.Prelude.{Option, Some, None, Result, Ok, Err}
 use Prim.Native.Nat.{ℕ}
 use mathlib.Core.Path.{◌≡◌, refl, sym, ◌∙◌}
 use mathlib.Core.Bool.{Bool, false, not, false≢true}
@@ -13,7 +14,6 @@ use Rattle.laws.specs.Lists.{Rearranged}
 use Rattle.laws.proofs.Rearranged.{rearranged_sym, length_same, every_same, push_same, put_same, without_same}
 use Rattle.kinds.specs.declared.Reader.{Reader}
 use Rattle.kinds.specs.Limits.{capacity}
-use Rattle.readers.specs.declared.Found.{Found}
 use Rattle.readers.specs.Same.{same_reader}
 use Rattle.readers.specs.Listed.{live, listed, is_at, find_in, blank_reader}
 use Rattle.readers.proofs.Bridge.{live_listed}
@@ -23,11 +23,11 @@ use Rattle.page_record.specs.Pages.{head_of, page_of}
 use Rattle.rules.specs.Rules.{shared_state_valid}
 use Rattle.soundness.proofs.Facts.{Sound}
 use Rattle.soundness.proofs.Tested.{facts, tested_parts}
-use Rattle.requests.specs.declared.{Verdict.Verdict, Request.Request}
+use Rattle.requests.specs.declared.Request.{Request}
+use Rattle.requests.specs.declared.Refusal.{Refusal}
 use Rattle.requests.specs.Requests.{judged}
 use Rattle.requests.proofs.Formed.{formed}
 use Rattle.heads.specs.declared.{Edit.Edit, Decision.Decision}
-use Rattle.steps.specs.declared.Sought.{Sought}
 use Rattle.steps.specs.Decide.{decide_of, sought_of}
 use Rattle.lock.specs.Step.{edited, look_for, decided_on, step_of}
 use Rattle.lock.specs.Order.{Alike, AnsweredAlike}
@@ -36,16 +36,16 @@ use Rattle.lock.proofs.Keeps.Rows.{keeps}
 use Rattle.lock.proofs.Order.Places.{at_place, moved_to, place_alone, no_place}
 
 -- ---- the same reader, found in both lists or in neither
-data BothFind (l l' : List Reader) : Found → Found → Type 0 where
-  neither : BothFind l l' Found.Nowhere Found.Nowhere
-  each : (x : Reader) (i j : ℕ) → First l x i → First l' x j → BothFind l l' (Found.At i) (Found.At j)
+data BothFind (l l' : List Reader) : Option ℕ → Option ℕ → Type 0 where
+  neither : BothFind l l' None None
+  each : (x : Reader) (i j : ℕ) → First l x i → First l' x j → BothFind l l' (Some i) (Some j)
 
 -- who is absent from the one is absent from the other
-absent_same : (l l' : List Reader) → Rearranged l l' → (x : Reader) → find_in l x ≡ Found.Nowhere → find_in l' x ≡ Found.Nowhere
+absent_same : (l l' : List Reader) → Rearranged l l' → (x : Reader) → find_in l x ≡ None → find_in l' x ≡ None
 absent_same l l' same x e = find_none x l' (every_same same (λ r. not (same_reader r x)) (nowhere x l e))
 
 -- a place is not nowhere
-unplace : (i : ℕ) → Found.At i ≡ Found.Nowhere → ⊥
+unplace : (i : ℕ) → Some i ≡ None → ⊥
 unplace i e = let z : ◌≡◌ {A = ℕ} 0 1 = cc in omega arith
 
 -- what is decided of one head on two lists: the answers and the heads left are the same, and so are the readers left, but for their order
@@ -55,16 +55,16 @@ record DecidedAlike (l l' : List Reader) (d d' : Decision) : Type 0 where
   pub readers : Rearranged (edited d.edit l) (edited d'.edit l')
 
 module _ (l l' : List Reader) (same : Rearranged l l') where
-  both_look : (x : Sought) → BothFind l l' (look_for l x) (look_for l' x)
+  both_look : (x : Option Reader) → BothFind l l' (look_for l x) (look_for l' x)
   unfolding look_for
-  both_look Sought.Nobody = BothFind.neither
-  both_look (Sought.One x) = go (find_in l x) refl (find_in l' x) refl
+  both_look None = BothFind.neither
+  both_look (Some x) = go (find_in l x) refl (find_in l' x) refl
     where
-      go : (o : Found) → find_in l x ≡ o → (o' : Found) → find_in l' x ≡ o' → BothFind l l' o o'
-      go Found.Nowhere e Found.Nowhere e' = BothFind.neither
-      go (Found.At i) e (Found.At j) e' = BothFind.each x i j (found x l i e) (found x l' j e')
-      go Found.Nowhere e (Found.At j) e' = absurd (unplace j (sym e' ∙ absent_same l l' same x e))
-      go (Found.At i) e Found.Nowhere e' = absurd (unplace i (sym e ∙ absent_same l' l (rearranged_sym same) x e'))
+      go : (o : Option ℕ) → find_in l x ≡ o → (o' : Option ℕ) → find_in l' x ≡ o' → BothFind l l' o o'
+      go None e None e' = BothFind.neither
+      go (Some i) e (Some j) e' = BothFind.each x i j (found x l i e) (found x l' j e')
+      go None e (Some j) e' = absurd (unplace j (sym e' ∙ absent_same l l' same x e))
+      go (Some i) e None e' = absurd (unplace i (sym e ∙ absent_same l' l (rearranged_sym same) x e'))
 
   -- ---- an edit of both: at no place, and at the place of one reader
   unplaced : (e : Edit) → at_place e ≡ false → Rearranged (edited e l) (edited e l')
@@ -81,12 +81,12 @@ module _ (l l' : List Reader) (same : Rearranged l l') where
 
   -- ---- what is decided
   module _ (h : Head) (q : Request) where
-    on_found : (full : Bool) (o o' : Found) → BothFind l l' o o' → DecidedAlike l l' (decide_of h q o full) (decide_of h q o' full)
+    on_found : (full : Bool) (o o' : Option ℕ) → BothFind l l' o o' → DecidedAlike l l' (decide_of h q o full) (decide_of h q o' full)
     on_found full _ _ BothFind.neither =
-        let d = decide_of h q Found.Nowhere full in
+        let d = decide_of h q None full in
         record { answer = refl; head = refl; readers = unplaced d.edit (no_place h q full) }
     on_found full _ _ (BothFind.each x i j f g) =
-        let d = decide_of h q (Found.At 0) full in
+        let d = decide_of h q (Some 0) full in
         rw (place_alone h q full i, place_alone h q full j)
         record { answer = refl; head = refl; readers = at_places x i j f g d.edit }
 
@@ -119,8 +119,8 @@ alike_of h l l' same s = record {
 pub order_free : (p p' : Page) → Alike p p' → (q : Request) → AnsweredAlike (step_of p q) (step_of p' q)
 order_free p p' two q = go (judged q) refl
   where
-    go : (v : Verdict) → judged q ≡ v → AnsweredAlike (step_of p q) (step_of p' q)
-    go Verdict.Passed e =
+    go : (v : Result (Unit {0}) Refusal) → judged q ≡ v → AnsweredAlike (step_of p q) (step_of p' q)
+    go (Ok _) e =
         let h = head_of p in
         let l = live p.readers in
         let l' = live p'.readers in
@@ -131,5 +131,5 @@ order_free p p' two q = go (judged q) refl
         let s = (keeps h l q (formed q e).bucket (facts p two.sound).parts).sound in
         rw (step_listed q e p two.sound, other, ← a.head)
         record { answer = a.answer; page = alike_of d.head (edited d.edit l) (edited d'.edit l') a.readers s }
-    go (Verdict.Failed why) e =
+    go (Err why) e =
         rw (unfit_stays p q why two.sound e, unfit_stays p' q why two.sound' e) record { answer = refl; page = two }

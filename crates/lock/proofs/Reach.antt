@@ -2,11 +2,12 @@
 -- steps 2 and 5 are not reached (`release_flags`, `claim_flags`), and neither are the flags that 25, 26 and 27 have no arm for
 -- (`discard_flags`, `share_flags`, `pending_flags`); `get_Some_0` in 1, 3 and 24 finds a value in storage; and 8, 11 and 12 hand
 -- out the value that is in storage. Each from the step's own premises. Assumes nothing.
+use Rattle.std.specs.Prelude.{Some}
 use mathlib.Core.Path.{◌≡◌, ap}
 use mathlib.Core.Logic.{◌⊎◌}
 use mathlib.Core.Bool.{Bool}
 use mathlib.Core.List.{List}
-use Rattle.kinds.specs.declared.{Flag.Flag, Storage.Storage, Phase.Phase, Reader.Reader}
+use Rattle.kinds.specs.declared.{Flag.Flag, Phase.Phase, Reader.Reader}
 use Rattle.readers.specs.Listed.{find_in}
 use Rattle.page_record.specs.declared.Head.{Head}
 use Rattle.soundness.proofs.Facts.{Sound}
@@ -67,13 +68,13 @@ module _ (h : Head) (l : List Reader) (s : Sound h l) where
   -- ---- the value that is handed out
   -- 8, line 241
   pub lock_withdraws : Passes (withdraw_take_exc_lock_finish h).premises
-      → h.storage ≡ Storage.In (answer_value (withdraw_take_exc_lock_finish h).answer)
+      → h.storage ≡ Some (answer_value (withdraw_take_exc_lock_finish h).answer)
   lock_withdraws p = (known s).pending_in p.0
 
   -- 11 and 12, lines 271 and 280
-  pub alloc_withdraws : Passes (withdraw_alloc h).premises → h.storage ≡ Storage.In (answer_value (withdraw_alloc h).answer)
+  pub alloc_withdraws : Passes (withdraw_alloc h).premises → h.storage ≡ Some (answer_value (withdraw_alloc h).answer)
   alloc_withdraws p = (known s).unmapped_in p.0
 
   pub alloc_no_refcount_withdraws : Passes (withdraw_alloc_no_refcount h).premises
-      → h.storage ≡ Storage.In (answer_value (withdraw_alloc_no_refcount h).answer)
+      → h.storage ≡ Some (answer_value (withdraw_alloc_no_refcount h).answer)
   alloc_no_refcount_withdraws p = (known s).unmapped_in p.0

@@ -39,11 +39,11 @@
 --   withdraw storage -= Some(v);                     (withdraw : v is in before, nothing after, and v is handed out)
 --   deposit storage += Some(v);                      (deposit : nothing is in before, and v after)
 --   what no clause names                             (only : Only fields pre post out), the other fields stay
-use Rattle.std.specs.Prelude.{ℕ, ◌+◌, ◌-◌, ◌<◌, ◌≤◌, ◌≡◌, ◌⊎◌, ◌≢◌, Bool, true, false, cond, ◌||◌, List, [], ◌∷◌, ◌++◌, T, eqb, length, get_or}
+use Rattle.std.specs.Prelude.{ℕ, Option, Some, None, ◌+◌, ◌-◌, ◌<◌, ◌≤◌, ◌≡◌, ◌⊎◌, ◌≢◌, Bool, true, false, cond, ◌||◌, List, [], ◌∷◌, ◌++◌, T, eqb, length, get_or}
 use Rattle.laws.specs.Lists.{among, last_first}
-use Rattle.kinds.specs.declared.{Bucket.Bucket, Visited.Visited, Count.Count, MaybeBucket.MaybeBucket, Flag.Flag}
-use Rattle.kinds.specs.declared.{Storage.Storage, Phase.Phase, Reader.Reader, ExcState.ExcState}
-use Rattle.kinds.specs.declared.{LoadingState.LoadingState, WritebackState.WritebackState}
+use Rattle.kinds.specs.declared.{Bucket.Bucket, Visited.Visited, Count.Count, Flag.Flag}
+use Rattle.kinds.specs.declared.{Phase.Phase, Reader.Reader, ExcState.ExcState}
+use Rattle.kinds.specs.declared.LoadingState.{LoadingState}
 use Rattle.kinds.specs.Limits.{buckets, ceiling, capacity}
 use Rattle.readers.specs.Listed.{live}
 use Rattle.page_record.specs.declared.{Head.Head, Page.Page}
@@ -54,13 +54,13 @@ use Rattle.lock.specs.Words.{raising, listing}
 -- ---- the source's words
 -- fields { .. }, line 107; the multiset of readers is a list
 pub record RwLock : Type 0 where
-  pub storage : Storage
+  pub storage : Option ℕ
   pub flag : Flag
   pub ref_counts : List Count
   pub shared_state : List Reader
   pub exc_state : ExcState
   pub loading_state : LoadingState
-  pub writeback_state : WritebackState
+  pub writeback_state : Option ℕ
 
 -- a head and the list of its readers are such a state
 abbrev pub state_with : Head → List Reader → RwLock
@@ -79,8 +79,8 @@ abbrev pub state_of : Page → RwLock
 state_of p = state_with (head_of p) (live p.readers)
 
 -- Some(bucket)
-abbrev pub some : Bucket → MaybeBucket
-some b = MaybeBucket.At b
+abbrev pub some : Bucket → Option Bucket
+some b = Some b
 
 -- SharedState, line 43
 abbrev pub pending : Bucket → Reader
@@ -114,9 +114,9 @@ pub record Fewer (pre post : RwLock) (bucket : Bucket) : Type 0 where
   pub elsewhere : Elsewhere pre post bucket
 
 -- one less at a holder's bucket; where it has none, the counts are the same list
-abbrev pub OneLess : RwLock → RwLock → MaybeBucket → Type 0
-OneLess pre post MaybeBucket.None = post.ref_counts ≡ pre.ref_counts
-OneLess pre post (MaybeBucket.At bucket) = Fewer pre post bucket
+abbrev pub OneLess : RwLock → RwLock → Option Bucket → Type 0
+OneLess pre post None = post.ref_counts ≡ pre.ref_counts
+OneLess pre post (Some bucket) = Fewer pre post bucket
 
 -- what a clean holder puts in is what it took; one that is not clean puts in any value
 abbrev pub Unchanged : Bool → ℕ → ℕ → Type 0
@@ -155,7 +155,7 @@ Unless true A = Unit {0}
 Unless false A = A
 
 -- only the fields listed may differ, and only where `withdrawn` is listed is a value handed out
-pub record Only (fields : List Field) (pre post : RwLock) (out : Storage) : Type 0 where
+pub record Only (fields : List Field) (pre post : RwLock) (out : Option ℕ) : Type 0 where
   pub storage_stays : Unless (names fields storage) (post.storage ≡ pre.storage)
   pub flag_stays : Unless (names fields flag) (post.flag ≡ pre.flag)
   pub ref_counts_stay : Unless (names fields ref_counts) (post.ref_counts ≡ pre.ref_counts)
@@ -163,23 +163,23 @@ pub record Only (fields : List Field) (pre post : RwLock) (out : Storage) : Type
   pub exc_state_stays : Unless (names fields exc_state) (post.exc_state ≡ pre.exc_state)
   pub loading_state_stays : Unless (names fields loading_state) (post.loading_state ≡ pre.loading_state)
   pub writeback_state_stays : Unless (names fields writeback_state) (post.writeback_state ≡ pre.writeback_state)
-  pub nothing_withdrawn : Unless (names fields withdrawn) (out ≡ Storage.Out)
+  pub nothing_withdrawn : Unless (names fields withdrawn) (out ≡ None)
 
 -- ---- the transitions
-pub data Moves (pre : RwLock) (q : Request) (post : RwLock) (out : Storage) : Type 0 where
+pub data Moves (pre : RwLock) (q : Request) (post : RwLock) (out : Option ℕ) : Type 0 where
   -- 1 take_writeback, line 143
   take_writeback : (value : ℕ)
       (step : q.step ≡ 1)
       (require : pre.flag ≡ Flag.Available)
       (update : post.flag ≡ Flag.Writeback)
-      (birds_eye_let : pre.storage ≡ Storage.In value)
-      (add : (pre.writeback_state ≡ WritebackState.None) × (post.writeback_state ≡ WritebackState.Held value))
+      (birds_eye_let : pre.storage ≡ Some value)
+      (add : (pre.writeback_state ≡ None) × (post.writeback_state ≡ Some value))
       (only : Only (flag ∷ writeback_state ∷ []) pre post out)
       → Moves pre q post out
   -- 2 release_writeback, line 152
   release_writeback : (any : ℕ)
       (step : q.step ≡ 2)
-      (remove : (pre.writeback_state ≡ WritebackState.Held any) × (post.writeback_state ≡ WritebackState.None))
+      (remove : (pre.writeback_state ≡ Some any) × (post.writeback_state ≡ None))
       (match_flag : Arm pre post Flag.Writeback Flag.Available
       ⊎ Arm pre post Flag.WritebackAndPendingExcLock Flag.PendingExcLock
       ⊎ Arm pre post Flag.WritebackAndClaimed Flag.Claimed)
@@ -190,8 +190,8 @@ pub data Moves (pre : RwLock) (q : Request) (post : RwLock) (out : Storage) : Ty
       (step : q.step ≡ 3)
       (match_flag : Arm pre post Flag.Available Flag.Claimed
       ⊎ Arm pre post Flag.Writeback Flag.WritebackAndClaimed)
-      (birds_eye_let : pre.storage ≡ Storage.In value)
-      (add : (pre.exc_state ≡ ExcState.None) × (post.exc_state ≡ ExcState.Claim MaybeBucket.None value))
+      (birds_eye_let : pre.storage ≡ Some value)
+      (add : (pre.exc_state ≡ ExcState.None) × (post.exc_state ≡ ExcState.Claim None value))
       (only : Only (flag ∷ exc_state ∷ []) pre post out)
       → Moves pre q post out
   -- 4 shared_to_claim, line 180; the reader that it is given is the one that the request names
@@ -207,7 +207,7 @@ pub data Moves (pre : RwLock) (q : Request) (post : RwLock) (out : Storage) : Ty
       (only : Only (shared_state ∷ flag ∷ exc_state ∷ []) pre post out)
       → Moves pre q post out
   -- 5 claim_to_pending, line 197
-  claim_to_pending : (bucket : MaybeBucket) (value : ℕ)
+  claim_to_pending : (bucket : Option Bucket) (value : ℕ)
       (step : q.step ≡ 5)
       (remove : pre.exc_state ≡ ExcState.Claim bucket value)
       (add : post.exc_state ≡ ExcState.PendingAwaitWriteback bucket value)
@@ -216,7 +216,7 @@ pub data Moves (pre : RwLock) (q : Request) (post : RwLock) (out : Storage) : Ty
       (only : Only (exc_state ∷ flag ∷ []) pre post out)
       → Moves pre q post out
   -- 6 take_exc_lock_finish_writeback, line 211
-  take_exc_lock_finish_writeback : (clean : Bool) (bucket : MaybeBucket) (value : ℕ)
+  take_exc_lock_finish_writeback : (clean : Bool) (bucket : Option Bucket) (value : ℕ)
       (step : q.step ≡ 6)
       (named : q.clean ≡ cond clean 1 0)
       (require : (pre.flag ≢ Flag.Writeback) × (pre.flag ≢ Flag.WritebackAndPendingExcLock))
@@ -226,7 +226,7 @@ pub data Moves (pre : RwLock) (q : Request) (post : RwLock) (out : Storage) : Ty
       (only : Only (exc_state ∷ flag ∷ []) pre post out)
       → Moves pre q post out
   -- 7 take_exc_lock_check_ref_count, line 224
-  take_exc_lock_check_ref_count : (bucket : MaybeBucket) (visited_count : Visited) (clean : Bool) (value expected_rc : ℕ)
+  take_exc_lock_check_ref_count : (bucket : Option Bucket) (visited_count : Visited) (clean : Bool) (value expected_rc : ℕ)
       (step : q.step ≡ 7)
       (remove : pre.exc_state ≡ ExcState.Pending bucket visited_count clean value)
       (require : visited_count.0 < buckets)
@@ -237,33 +237,33 @@ pub data Moves (pre : RwLock) (q : Request) (post : RwLock) (out : Storage) : Ty
       (only : Only (exc_state ∷ []) pre post out)
       → Moves pre q post out
   -- 8 withdraw_take_exc_lock_finish, line 237; changed: the holder keeps the value that it takes
-  withdraw_take_exc_lock_finish : (bucket : MaybeBucket) (visited_count : Visited) (clean : Bool) (value : ℕ)
+  withdraw_take_exc_lock_finish : (bucket : Option Bucket) (visited_count : Visited) (clean : Bool) (value : ℕ)
       (step : q.step ≡ 8)
       (remove : pre.exc_state ≡ ExcState.Pending bucket visited_count clean value)
       (require : visited_count.0 ≡ buckets)
       (add : post.exc_state ≡ ExcState.Obtained bucket clean value)
-      (withdraw : (pre.storage ≡ Storage.In value) × (post.storage ≡ Storage.Out) × (out ≡ Storage.In value))
+      (withdraw : (pre.storage ≡ Some value) × (post.storage ≡ None) × (out ≡ Some value))
       (only : Only (exc_state ∷ storage ∷ withdrawn ∷ []) pre post out)
       → Moves pre q post out
   -- 9 deposit_downgrade_exc_lock, line 247; changed: a clean holder puts in what it took
-  deposit_downgrade_exc_lock : (bucket : MaybeBucket) (clean : Bool) (taken : ℕ) (get_some : Bucket)
+  deposit_downgrade_exc_lock : (bucket : Option Bucket) (clean : Bool) (taken : ℕ) (get_some : Bucket)
       (step : q.step ≡ 9)
       (remove : (pre.exc_state ≡ ExcState.Obtained bucket clean taken) × (post.exc_state ≡ ExcState.None))
       (require : bucket ≡ some get_some)
       (unchanged_if_clean : Unchanged clean taken q.value)
       (update : post.flag ≡ Flag.Available)
-      (deposit : (pre.storage ≡ Storage.Out) × (post.storage ≡ Storage.In q.value))
+      (deposit : (pre.storage ≡ None) × (post.storage ≡ Some q.value))
       (add : post.shared_state ≡ pre.shared_state ++ obtained get_some q.value ∷ [])
       (only : Only (exc_state ∷ flag ∷ storage ∷ shared_state ∷ []) pre post out)
       → Moves pre q post out
   -- 10 deposit_downgrade_exc_lock_to_claim, line 257; changed: likewise
-  deposit_downgrade_exc_lock_to_claim : (bucket : MaybeBucket) (clean : Bool) (taken : ℕ) (get_some : Bucket)
+  deposit_downgrade_exc_lock_to_claim : (bucket : Option Bucket) (clean : Bool) (taken : ℕ) (get_some : Bucket)
       (step : q.step ≡ 10)
       (remove : pre.exc_state ≡ ExcState.Obtained bucket clean taken)
       (require : bucket ≡ some get_some)
       (unchanged_if_clean : Unchanged clean taken q.value)
       (update : post.flag ≡ Flag.Claimed)
-      (deposit : (pre.storage ≡ Storage.Out) × (post.storage ≡ Storage.In q.value))
+      (deposit : (pre.storage ≡ None) × (post.storage ≡ Some q.value))
       (add : post.exc_state ≡ ExcState.Claim bucket q.value)
       (only : Only (exc_state ∷ flag ∷ storage ∷ []) pre post out)
       → Moves pre q post out
@@ -273,7 +273,7 @@ pub data Moves (pre : RwLock) (q : Request) (post : RwLock) (out : Storage) : Ty
       (require : pre.flag ≡ Flag.Unmapped)
       (update : post.flag ≡ Flag.LoadingExcLock)
       (add : (pre.loading_state ≡ LoadingState.None) × (post.loading_state ≡ LoadingState.Pending))
-      (withdraw : (pre.storage ≡ Storage.In any) × (post.storage ≡ Storage.Out) × (out ≡ Storage.In any))
+      (withdraw : (pre.storage ≡ Some any) × (post.storage ≡ None) × (out ≡ Some any))
       (only : Only (flag ∷ loading_state ∷ storage ∷ withdrawn ∷ []) pre post out)
       → Moves pre q post out
   -- 12 withdraw_alloc_no_refcount, line 276
@@ -281,8 +281,8 @@ pub data Moves (pre : RwLock) (q : Request) (post : RwLock) (out : Storage) : Ty
       (step : q.step ≡ 12)
       (require : pre.flag ≡ Flag.Unmapped)
       (update : post.flag ≡ Flag.Loading)
-      (add : (pre.loading_state ≡ LoadingState.None) × (post.loading_state ≡ LoadingState.Obtained MaybeBucket.None))
-      (withdraw : (pre.storage ≡ Storage.In any) × (post.storage ≡ Storage.Out) × (out ≡ Storage.In any))
+      (add : (pre.loading_state ≡ LoadingState.None) × (post.loading_state ≡ LoadingState.Obtained None))
+      (withdraw : (pre.storage ≡ Some any) × (post.storage ≡ None) × (out ≡ Some any))
       (only : Only (flag ∷ loading_state ∷ storage ∷ withdrawn ∷ []) pre post out)
       → Moves pre q post out
   -- 13 loading_inc_count, line 285
@@ -297,7 +297,7 @@ pub data Moves (pre : RwLock) (q : Request) (post : RwLock) (out : Storage) : Ty
       (only : Only (loading_state ∷ ref_counts ∷ []) pre post out)
       → Moves pre q post out
   -- 14 obtain_loading, line 296
-  obtain_loading : (bucket : MaybeBucket)
+  obtain_loading : (bucket : Option Bucket)
       (step : q.step ≡ 14)
       (remove : pre.loading_state ≡ LoadingState.PendingCounted bucket)
       (add : post.loading_state ≡ LoadingState.Obtained bucket)
@@ -308,35 +308,35 @@ pub data Moves (pre : RwLock) (q : Request) (post : RwLock) (out : Storage) : Ty
   obtain_loading_no_refcount :
       (step : q.step ≡ 15)
       (remove : pre.loading_state ≡ LoadingState.Pending)
-      (add : post.loading_state ≡ LoadingState.Obtained MaybeBucket.None)
+      (add : post.loading_state ≡ LoadingState.Obtained None)
       (update : post.flag ≡ Flag.Loading)
       (only : Only (loading_state ∷ flag ∷ []) pre post out)
       → Moves pre q post out
   -- 16 deposit_loading_to_shared, line 337
-  deposit_loading_to_shared : (bucket : MaybeBucket) (get_some : Bucket)
+  deposit_loading_to_shared : (bucket : Option Bucket) (get_some : Bucket)
       (step : q.step ≡ 16)
       (remove : (pre.loading_state ≡ LoadingState.Obtained bucket) × (post.loading_state ≡ LoadingState.None))
       (require : bucket ≡ some get_some)
       (update : post.flag ≡ Flag.Available)
-      (deposit : (pre.storage ≡ Storage.Out) × (post.storage ≡ Storage.In q.value))
+      (deposit : (pre.storage ≡ None) × (post.storage ≡ Some q.value))
       (add : post.shared_state ≡ pre.shared_state ++ obtained get_some q.value ∷ [])
       (only : Only (loading_state ∷ flag ∷ storage ∷ shared_state ∷ []) pre post out)
       → Moves pre q post out
   -- 17 deposit_loading_to_done, line 347; changed: it asks for no bucket, and takes one off the loader's, if it has one
-  deposit_loading_to_done : (bucket : MaybeBucket)
+  deposit_loading_to_done : (bucket : Option Bucket)
       (step : q.step ≡ 17)
       (remove : (pre.loading_state ≡ LoadingState.Obtained bucket) × (post.loading_state ≡ LoadingState.None))
       (update : post.flag ≡ Flag.Available)
-      (deposit : (pre.storage ≡ Storage.Out) × (post.storage ≡ Storage.In q.value))
+      (deposit : (pre.storage ≡ None) × (post.storage ≡ Some q.value))
       (one_less : OneLess pre post bucket)
       (only : Only (loading_state ∷ flag ∷ storage ∷ ref_counts ∷ []) pre post out)
       → Moves pre q post out
   -- 18 exc_inc_count, line 356; changed: the holder keeps what it took
-  exc_inc_count : (none_bucket : MaybeBucket) (clean : Bool) (taken pre_count : ℕ)
+  exc_inc_count : (none_bucket : Option Bucket) (clean : Bool) (taken pre_count : ℕ)
       (step : q.step ≡ 18)
       (require : q.bucket.0 < buckets)
       (remove_exc_state : pre.exc_state ≡ ExcState.Obtained none_bucket clean taken)
-      (require_none : none_bucket ≡ MaybeBucket.None)
+      (require_none : none_bucket ≡ None)
       (remove_ref_counts : count_of pre q.bucket ≡ pre_count)
       (add_exc_state : post.exc_state ≡ ExcState.Obtained (some q.bucket) clean taken)
       (add_ref_counts : count_of post q.bucket ≡ pre_count + 1)
@@ -412,7 +412,7 @@ pub data Moves (pre : RwLock) (q : Request) (post : RwLock) (out : Storage) : Ty
       (require_flag : pre.flag ≢ Flag.Loading)
       (remove : pre.shared_state ≡ before ++ pending2 q.bucket ∷ after)
       (the_first : Absent (pending2 q.bucket) before)
-      (birds_eye_let : pre.storage ≡ Storage.In value)
+      (birds_eye_let : pre.storage ≡ Some value)
       (add : post.shared_state ≡ before ++ obtained q.bucket value ∷ after)
       (only : Only (shared_state ∷ []) pre post out)
       → Moves pre q post out
@@ -420,7 +420,7 @@ pub data Moves (pre : RwLock) (q : Request) (post : RwLock) (out : Storage) : Ty
   -- The source has none of these; they are in its words. 25 to 27 match the flag as 2 and 5 do: a flag that no arm names is one that a
   -- sound record does not have there.
   -- 25 discard_claim
-  discard_claim : (bucket : MaybeBucket) (any : ℕ)
+  discard_claim : (bucket : Option Bucket) (any : ℕ)
       (step : q.step ≡ 25)
       (remove : (pre.exc_state ≡ ExcState.Claim bucket any) × (post.exc_state ≡ ExcState.None))
       (match_flag : Arm pre post Flag.Claimed Flag.Available
@@ -429,7 +429,7 @@ pub data Moves (pre : RwLock) (q : Request) (post : RwLock) (out : Storage) : Ty
       (only : Only (exc_state ∷ flag ∷ ref_counts ∷ []) pre post out)
       → Moves pre q post out
   -- 26 claim_to_shared
-  claim_to_shared : (bucket : MaybeBucket) (value : ℕ) (get_some : Bucket)
+  claim_to_shared : (bucket : Option Bucket) (value : ℕ) (get_some : Bucket)
       (step : q.step ≡ 26)
       (remove : (pre.exc_state ≡ ExcState.Claim bucket value) × (post.exc_state ≡ ExcState.None))
       (require : bucket ≡ some get_some)
@@ -439,7 +439,7 @@ pub data Moves (pre : RwLock) (q : Request) (post : RwLock) (out : Storage) : Ty
       (only : Only (exc_state ∷ flag ∷ shared_state ∷ []) pre post out)
       → Moves pre q post out
   -- 27 pending_to_claim
-  pending_to_claim : (bucket : MaybeBucket) (value : ℕ)
+  pending_to_claim : (bucket : Option Bucket) (value : ℕ)
       (step : q.step ≡ 27)
       (remove : pre.exc_state ≡ ExcState.PendingAwaitWriteback bucket value)
       (add : post.exc_state ≡ ExcState.Claim bucket value)
@@ -448,7 +448,7 @@ pub data Moves (pre : RwLock) (q : Request) (post : RwLock) (out : Storage) : Ty
       (only : Only (exc_state ∷ flag ∷ []) pre post out)
       → Moves pre q post out
   -- 28 cancel_exc_lock_to_claim
-  cancel_exc_lock_to_claim : (bucket : MaybeBucket) (visited_count : Visited) (clean : Bool) (value : ℕ)
+  cancel_exc_lock_to_claim : (bucket : Option Bucket) (visited_count : Visited) (clean : Bool) (value : ℕ)
       (step : q.step ≡ 28)
       (remove : pre.exc_state ≡ ExcState.Pending bucket visited_count clean value)
       (add : post.exc_state ≡ ExcState.Claim bucket value)
@@ -456,22 +456,22 @@ pub data Moves (pre : RwLock) (q : Request) (post : RwLock) (out : Storage) : Ty
       (only : Only (exc_state ∷ flag ∷ []) pre post out)
       → Moves pre q post out
   -- 29 deposit_exc_lock_to_done
-  deposit_exc_lock_to_done : (bucket : MaybeBucket) (clean : Bool) (taken : ℕ)
+  deposit_exc_lock_to_done : (bucket : Option Bucket) (clean : Bool) (taken : ℕ)
       (step : q.step ≡ 29)
       (remove : (pre.exc_state ≡ ExcState.Obtained bucket clean taken) × (post.exc_state ≡ ExcState.None))
       (unchanged_if_clean : Unchanged clean taken q.value)
       (update : post.flag ≡ Flag.Available)
-      (deposit : (pre.storage ≡ Storage.Out) × (post.storage ≡ Storage.In q.value))
+      (deposit : (pre.storage ≡ None) × (post.storage ≡ Some q.value))
       (one_less : OneLess pre post bucket)
       (only : Only (exc_state ∷ flag ∷ storage ∷ ref_counts ∷ []) pre post out)
       → Moves pre q post out
   -- 30 deposit_exc_lock_to_unmapped
-  deposit_exc_lock_to_unmapped : (bucket : MaybeBucket) (clean : Bool) (taken : ℕ)
+  deposit_exc_lock_to_unmapped : (bucket : Option Bucket) (clean : Bool) (taken : ℕ)
       (step : q.step ≡ 30)
       (remove : (pre.exc_state ≡ ExcState.Obtained bucket clean taken) × (post.exc_state ≡ ExcState.None))
       (unchanged_if_clean : Unchanged clean taken q.value)
       (update : post.flag ≡ Flag.Unmapped)
-      (deposit : (pre.storage ≡ Storage.Out) × (post.storage ≡ Storage.In q.value))
+      (deposit : (pre.storage ≡ None) × (post.storage ≡ Some q.value))
       (one_less : OneLess pre post bucket)
       (only : Only (exc_state ∷ flag ∷ storage ∷ ref_counts ∷ []) pre post out)
       → Moves pre q post out
@@ -482,6 +482,6 @@ pub record Room (pre : RwLock) (q : Request) : Type 0 where
   pub free : T (among listing q.step) → length pre.shared_state < capacity
 
 -- ---- the answer that hands this out
-abbrev pub answer_of : Storage → Answer
-answer_of Storage.Out = Answer.Accepted
-answer_of (Storage.In value) = Answer.Withdrew value
+abbrev pub answer_of : Option ℕ → Answer
+answer_of None = Answer.Accepted
+answer_of (Some value) = Answer.Withdrew value

@@ -2,18 +2,17 @@
 // request's fields; then the step is decided on the page's head, and its edit is made in the list of readers.
 #![tactic(auto)]
 
-ghost use Rattle.std.specs.Prelude.{◌≡◌};
+ghost use Rattle.std.specs.Prelude.{◌≡◌, Ok};
 ghost use Rattle.readers.specs.Listed.{live};
-ghost use Rattle.requests.specs.declared.Verdict.{Verdict};
 ghost use Rattle.lock.specs.Step.{look_for, edited_in, refused_by, stepped, step_of};
 
-use heads::Edit;
-use kinds::CAPACITY;
+use heads::{Decision, Edit};
+use kinds::{CAPACITY, Reader};
 use page_record::{Page, head_of, page_of};
-use readers::{Found, Readers, find, push, put, remove};
-use requests::{Answer, Refusal, Request, Verdict, judge};
+use readers::{Readers, find, push, put, remove};
+use requests::{Answer, Refusal, Request, judge};
 use soundness::is_sound;
-use steps::{Sought, decide, sought_by};
+use steps::{decide, sought_by};
 
 // What a step answers, and the page that it leaves.
 #[derive(Clone, Copy)]
@@ -24,13 +23,10 @@ pub struct Outcome {
 
 // Where the reader that is sought stands.
 #[tactic(auto, unfolding(crate::specs::Step::look_for))]
-fn look_for(readers: Readers, sought: Sought) -> Found
+fn look_for(readers: Readers, sought: Option<Reader>) -> Option<usize>
     ensures { result ≡ look_for (live readers) sought }
 {
-    match sought {
-        Sought::Nobody => Found::Nowhere,
-        Sought::One(reader) => find(readers, reader),
-    }
+    find(readers, sought?)
 }
 
 // The readers after an edit.
@@ -40,10 +36,9 @@ fn edited(readers: Readers, edit: Edit) -> Readers
 {
     match edit {
         Edit::Keep => readers,
-        Edit::Push(reader) => {
-            let pushed = push(readers, reader);
-            pushed.readers
-        }
+        Edit::Push(reader) => match push(readers, reader) {
+            Ok(after) | Err(after) => after,
+        },
         Edit::Put(place, reader) => put(readers, place, reader),
         Edit::Remove(place) => remove(readers, place),
     }
@@ -61,17 +56,16 @@ pub fn refuse(page: Page, why: Refusal) -> Outcome
 
 // The step of a request whose fields are in order, on a page that was judged.
 pub fn take_step(page: Page, request: Request) -> Outcome
-    ensures { result ≡ stepped page request Verdict.Passed }
+    ensures { result ≡ stepped page request (Ok tt) }
 {
     let readers = page.readers;
-    let len = readers.len;
     let found = look_for(readers, sought_by(request));
-    let decision = decide(head_of(page), request, found, CAPACITY <= len);
-    let answer = decision.answer;
-    let head = decision.head;
-    let edit = decision.edit;
-    let next = page_of(head, edited(readers, edit));
-    Outcome { answer, page: next }
+    let full = CAPACITY <= readers.len;
+    let Decision { answer, head, edit } = decide(head_of(page), request, found, full);
+    Outcome {
+        answer,
+        page: page_of(head, edited(readers, edit)),
+    }
 }
 
 // One request on one page.
@@ -82,10 +76,9 @@ pub fn step(page: Page, request: Request) -> Outcome
     if !is_sound(page) {
         return refuse(page, Refusal::Unsound);
     }
-    let verdict = judge(request);
-    match verdict {
-        Verdict::Passed => take_step(page, request),
-        Verdict::Failed(why) => refuse(page, why),
+    match judge(request) {
+        Ok(()) => take_step(page, request),
+        Err(why) => refuse(page, why),
     }
 }
 
@@ -93,18 +86,16 @@ pub fn step(page: Page, request: Request) -> Outcome
 pub fn apply(page: &mut Page, request: Request) -> Answer
     ensures { (result ≡ (step_of page.old request).answer) × (page.new ≡ (step_of page.old request).page) }
 {
-    let was = *page;
-    let out = step(was, request);
+    let out = step(*page, request);
     *page = out.page;
     out.answer
 }
 
-// A page of one's own, lent for one step: it is there so that others need no walk by hand. Whoever calls this passes and gets plain
-// values.
+// A page of one's own, lent to `apply` for one step. Whoever calls this passes and gets plain values, as of `step`.
 pub fn lend(own: Page, request: Request) -> Outcome
     ensures { result ≡ step_of own request }
 {
-    let mut p = own;
-    let a = apply(&mut p, request);
-    Outcome { answer: a, page: p }
+    let mut page = own;
+    let answer = apply(&mut page, request);
+    Outcome { answer, page }
 }

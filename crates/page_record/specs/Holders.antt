@@ -1,40 +1,40 @@
 -- What the rules and the steps ask of a holder, and what a holder carries. The accessors are total: where a kind carries no
 -- such thing they give a value that nobody reads, and the rules show that a sound record never gets there.
-use Rattle.std.specs.Prelude.{ℕ, Bool, true, false, eqb, ltb}
+use Rattle.std.specs.Prelude.{ℕ, Option, Some, None, Bool, true, false, eqb, ltb}
 use Rattle.std.specs.Bool.{beq}
-use Rattle.kinds.specs.declared.{Bucket.Bucket, Visited.Visited, MaybeBucket.MaybeBucket, Storage.Storage}
-use Rattle.kinds.specs.declared.{ExcState.ExcState, LoadingState.LoadingState, WritebackState.WritebackState}
+use Rattle.kinds.specs.declared.{Bucket.Bucket, Visited.Visited}
+use Rattle.kinds.specs.declared.{ExcState.ExcState, LoadingState.LoadingState}
 use Rattle.kinds.specs.Limits.{buckets}
 
 -- ---- storage
-abbrev pub is_stored : Storage → Bool
-is_stored Storage.Out = false
-is_stored (Storage.In value) = true
+abbrev pub is_stored : Option ℕ → Bool
+is_stored None = false
+is_stored (Some value) = true
 
 -- storage has just this value
-abbrev pub holds : Storage → ℕ → Bool
-holds Storage.Out v = false
-holds (Storage.In value) v = eqb value v
+abbrev pub holds : Option ℕ → ℕ → Bool
+holds None v = false
+holds (Some value) v = eqb value v
 
 -- the source's storage.get_Some_0()
-abbrev pub value_of : Storage → ℕ
-value_of Storage.Out = 0
-value_of (Storage.In value) = value
+abbrev pub value_of : Option ℕ → ℕ
+value_of None = 0
+value_of (Some value) = value
 
 -- ---- a bucket or none
-abbrev pub has_bucket : MaybeBucket → Bool
-has_bucket MaybeBucket.None = false
-has_bucket (MaybeBucket.At bucket) = true
+abbrev pub has_bucket : Option Bucket → Bool
+has_bucket None = false
+has_bucket (Some bucket) = true
 
 -- the source's valid_bucket, line 433
-abbrev pub valid_bucket : MaybeBucket → Bool
-valid_bucket MaybeBucket.None = true
-valid_bucket (MaybeBucket.At bucket) = ltb bucket.0 buckets
+abbrev pub valid_bucket : Option Bucket → Bool
+valid_bucket None = true
+valid_bucket (Some bucket) = ltb bucket.0 buckets
 
 -- the source's bucket.get_Some_0()
-abbrev pub bucket_of : MaybeBucket → Bucket
-bucket_of MaybeBucket.None = record { 0 = 0 }
-bucket_of (MaybeBucket.At bucket) = bucket
+abbrev pub bucket_of : Option Bucket → Bucket
+bucket_of None = record { 0 = 0 }
+bucket_of (Some bucket) = bucket
 
 -- ---- the exclusive holder
 abbrev pub no_exc : ExcState → Bool
@@ -82,8 +82,8 @@ is_locked said (ExcState.Pending bucket visited clean value) = beq said clean
 is_locked said (ExcState.Obtained bucket clean value) = beq said clean
 
 -- the source's get_bucket, line 72
-abbrev pub exc_bucket : ExcState → MaybeBucket
-exc_bucket ExcState.None = MaybeBucket.None
+abbrev pub exc_bucket : ExcState → Option Bucket
+exc_bucket ExcState.None = None
 exc_bucket (ExcState.Claim bucket value) = bucket
 exc_bucket (ExcState.PendingAwaitWriteback bucket value) = bucket
 exc_bucket (ExcState.Pending bucket visited clean value) = bucket
@@ -143,17 +143,17 @@ is_before_loading LoadingState.Pending = true
 is_before_loading (LoadingState.PendingCounted bucket) = true
 is_before_loading (LoadingState.Obtained bucket) = false
 
-abbrev pub loading_bucket : LoadingState → MaybeBucket
-loading_bucket LoadingState.None = MaybeBucket.None
-loading_bucket LoadingState.Pending = MaybeBucket.None
+abbrev pub loading_bucket : LoadingState → Option Bucket
+loading_bucket LoadingState.None = None
+loading_bucket LoadingState.Pending = None
 loading_bucket (LoadingState.PendingCounted bucket) = bucket
 loading_bucket (LoadingState.Obtained bucket) = bucket
 
 -- ---- the writeback
-abbrev pub no_writeback : WritebackState → Bool
-no_writeback WritebackState.None = true
-no_writeback (WritebackState.Held value) = false
+abbrev pub no_writeback : Option ℕ → Bool
+no_writeback None = true
+no_writeback (Some value) = false
 
-abbrev pub writeback_value : WritebackState → ℕ
-writeback_value WritebackState.None = 0
-writeback_value (WritebackState.Held value) = value
+abbrev pub writeback_value : Option ℕ → ℕ
+writeback_value None = 0
+writeback_value (Some value) = value

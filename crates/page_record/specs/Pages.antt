@@ -1,14 +1,13 @@
 -- A page is a head, everything but the readers, and the readers. The fresh page (RULES 1.5).
-use Rattle.std.specs.Prelude.{ℕ, List, get_or, replicate}
-use Rattle.kinds.specs.declared.{Count.Count, Flag.Flag, Storage.Storage, ExcState.ExcState, LoadingState.LoadingState}
-use Rattle.kinds.specs.declared.{WritebackState.WritebackState}
+use Rattle.std.specs.Prelude.{ℕ, Option, Some, None, List, get_or, replicate}
+use Rattle.kinds.specs.declared.{Count.Count, Flag.Flag, ExcState.ExcState, LoadingState.LoadingState}
 use Rattle.kinds.specs.Limits.{buckets}
 use Rattle.readers.specs.declared.Readers.{Readers}
 use Rattle.readers.specs.Listed.{no_readers}
 use Rattle.page_record.specs.declared.{Head.Head, Page.Page}
 
 -- a head of these parts, in the record's order
-abbrev pub head_with : Storage → Flag → List Count → ExcState → LoadingState → WritebackState → Head
+abbrev pub head_with : Option ℕ → Flag → List Count → ExcState → LoadingState → Option ℕ → Head
 head_with s f cs e l w = record {
   storage = s;
   flag = f;
@@ -48,11 +47,11 @@ number_at cs b = (get_or cs b (record { 0 = 0 })).0
 -- a page that nobody holds (the source's initialize, line 131)
 unfoldable pub fresh_page : ℕ → Page
 fresh_page value = record {
-  storage = Storage.In value;
+  storage = Some value;
   flag = Flag.Unmapped;
   ref_counts = replicate buckets (record { 0 = 0 });
   readers = no_readers;
   exc_state = ExcState.None;
   loading_state = LoadingState.None;
-  writeback_state = WritebackState.None;
+  writeback_state = None;
 }

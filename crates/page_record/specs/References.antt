@@ -1,13 +1,14 @@
 -- The references at a bucket, by the source's functions: the readers listed there, and the holders that have that bucket.
-use Rattle.std.specs.Prelude.{ℕ, ◌+◌, cond, List, eqb}
-use Rattle.kinds.specs.declared.{MaybeBucket.MaybeBucket, Reader.Reader, ExcState.ExcState, LoadingState.LoadingState}
+use Rattle.std.specs.Prelude.{ℕ, Option, Some, None, ◌+◌, cond, List, eqb}
+use Rattle.kinds.specs.declared.{Reader.Reader, ExcState.ExcState, LoadingState.LoadingState}
+use Rattle.kinds.specs.declared.Bucket.{Bucket}
 use Rattle.readers.specs.Listed.{count_at}
 use Rattle.page_record.specs.Holders.{exc_bucket, loading_bucket}
 
 -- 1 where it is just this bucket, else 0
-abbrev pub ref_at : MaybeBucket → ℕ → ℕ
-ref_at MaybeBucket.None b = 0
-ref_at (MaybeBucket.At bucket) b = cond (eqb bucket.0 b) 1 0
+abbrev pub ref_at : Option Bucket → ℕ → ℕ
+ref_at None b = 0
+ref_at (Some bucket) b = cond (eqb bucket.0 b) 1 0
 
 -- count_shared_refs, line 517: a filter's length is a count over the list
 abbrev pub count_shared_refs : List Reader → ℕ → ℕ

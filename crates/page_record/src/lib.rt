@@ -12,32 +12,31 @@ pub use holders::{
     exc_bucket, exc_visited, holds, is_await, is_before_loading, is_claim, is_editing, is_loading,
     is_locked, is_stored, loading_bucket, no_exc, no_load, no_writeback, valid_bucket,
 };
-use kinds::{
-    BUCKETS, Bucket, Count, ExcState, Flag, LoadingState, MaybeBucket, Storage, WritebackState,
-};
+use kinds::{BUCKETS, Bucket, Count, ExcState, Flag, LoadingState};
 use readers::{Readers, empty};
 
-// The record, field for field as in the source.
+// The record, field for field as in the source: theorems name `page.storage`, so it is not a Head beside its readers. Storage has the
+// page's version, or nothing where it was handed out, and the archive the version that it writes, or nothing where it writes none.
 #[derive(Clone, Copy)]
 pub struct Page {
-    pub storage: Storage,
+    pub storage: Option<u64>,
     pub flag: Flag,
     pub ref_counts: [Count; BUCKETS as usize],
     pub readers: Readers,
     pub exc_state: ExcState,
     pub loading_state: LoadingState,
-    pub writeback_state: WritebackState,
+    pub writeback_state: Option<u64>,
 }
 
 // The record without its readers: all that a step decides on.
 #[derive(Clone, Copy)]
 pub struct Head {
-    pub storage: Storage,
+    pub storage: Option<u64>,
     pub flag: Flag,
     pub ref_counts: [Count; BUCKETS as usize],
     pub exc_state: ExcState,
     pub loading_state: LoadingState,
-    pub writeback_state: WritebackState,
+    pub writeback_state: Option<u64>,
 }
 
 // A page that nobody holds, with this value in storage.
@@ -45,22 +44,14 @@ pub struct Head {
 pub fn fresh(value: u64) -> Page
     ensures { result ≡ fresh_page value }
 {
-    let storage = Storage::In(value);
-    let flag = Flag::Unmapped;
-    let nobody = Count(0);
-    let ref_counts = [nobody; BUCKETS as usize];
-    let readers = empty();
-    let exc_state = ExcState::None;
-    let loading_state = LoadingState::None;
-    let writeback_state = WritebackState::None;
     Page {
-        storage,
-        flag,
-        ref_counts,
-        readers,
-        exc_state,
-        loading_state,
-        writeback_state,
+        storage: Some(value),
+        flag: Flag::Unmapped,
+        ref_counts: [Count(0); BUCKETS as usize],
+        readers: empty(),
+        exc_state: ExcState::None,
+        loading_state: LoadingState::None,
+        writeback_state: None,
     }
 }
 
@@ -68,19 +59,15 @@ pub fn fresh(value: u64) -> Page
 pub fn head_of(page: Page) -> Head
     ensures { result ≡ head_of page }
 {
-    let storage = page.storage;
-    let flag = page.flag;
+    // An array goes by a variable: Rattle proves no literal that takes another field's array straight.
     let ref_counts = page.ref_counts;
-    let exc_state = page.exc_state;
-    let loading_state = page.loading_state;
-    let writeback_state = page.writeback_state;
     Head {
-        storage,
-        flag,
+        storage: page.storage,
+        flag: page.flag,
         ref_counts,
-        exc_state,
-        loading_state,
-        writeback_state,
+        exc_state: page.exc_state,
+        loading_state: page.loading_state,
+        writeback_state: page.writeback_state,
     }
 }
 
@@ -88,29 +75,21 @@ pub fn head_of(page: Page) -> Head
 pub fn page_of(head: Head, readers: Readers) -> Page
     ensures { result ≡ page_of head readers }
 {
-    let storage = head.storage;
-    let flag = head.flag;
     let ref_counts = head.ref_counts;
-    let exc_state = head.exc_state;
-    let loading_state = head.loading_state;
-    let writeback_state = head.writeback_state;
     Page {
-        storage,
-        flag,
+        storage: head.storage,
+        flag: head.flag,
         ref_counts,
         readers,
-        exc_state,
-        loading_state,
-        writeback_state,
+        exc_state: head.exc_state,
+        loading_state: head.loading_state,
+        writeback_state: head.writeback_state,
     }
 }
 
 // A holder's reference at a bucket: 1 where that is its own, else 0.
-pub fn ref_at(own: MaybeBucket, b: Bucket) -> usize
+pub fn ref_at(own: Option<Bucket>, b: Bucket) -> usize
     ensures { result ≡ ref_at own b.0 }
 {
-    match own {
-        MaybeBucket::None => 0,
-        MaybeBucket::At(bucket) => if bucket.0 == b.0 { 1 } else { 0 },
-    }
+    (own == Some(b)) as usize
 }

@@ -1,19 +1,20 @@
 -- Carries: bytes that are carried are had back (`held_carry`), a carry of up to fifteen bytes is valid, and a valid one is that of the
 -- bytes which it carries (`carry_held`); at the end it is accepted just if it carries none. Assumes nothing.
+use Rattle.std.specs.Prelude.{Ok, Err}
 use Prim.Native.Nat.{ℕ, zero, suc, ◌-◌, ◌<◌, ◌≤◌}
 use mathlib.Core.Path.{◌≡◌, refl, sym, ap, ◌∙◌}
 use mathlib.Core.Logic.{◌↔◌}
-use mathlib.Core.Bool.{Bool, true, false, cond, ◌&&◌, and-true}
+use mathlib.Core.Bool.{Bool, true, cond, ◌&&◌, and-true}
 use mathlib.Core.List.{List, [], ◌∷◌, ◌++◌}
 use native.Mathlib.Omega.{arith}
 use borrow.Author.Tests.{eq-eqb, le-leb, lt-leb}
 use lib.Dec.{T, eqb, leb, eqb→eq, leb→le}
 use lib.ListN.{length, take, drop, replicate, length-append, length-drop, length-replicate, take-append-drop}
-use lib.Seq.{take_all, take-append_seam, drop-append_seam, length-take-le}
+use lib.Seq.{take-append_seam, drop-append_seam, length-take-le}
 use Rattle.laws.proofs.Tests.{is_true, to_true, both, halves, parts_true}
 use Rattle.laws.proofs.Lists.{every_replicate}
-use Rattle.laws.proofs.Parts.{copied}
-use Rattle.requests.specs.declared.{Refusal.Refusal, Answer.Answer, Verdict.Verdict}
+use Rattle.laws.proofs.Parts.{rest_is, copied}
+use Rattle.requests.specs.declared.{Refusal.Refusal, Answer.Answer}
 use Rattle.requests.specs.Premises.{verdict}
 use Rattle.requests.proofs.Verdicts.{passed as all_hold}
 use Rattle.wire.specs.Bytes.{blank}
@@ -64,19 +65,17 @@ module _ (l : List ℕ) where
 
 -- ---- a valid carry
 -- one that claims more than fifteen bytes is not
-pub too_long_lem : (c : Carry) → carry_size < c.len → false ≡ is_valid c
+pub too_long_lem : (c : Carry) → carry_size < c.len → leb c.len carry_size ≡ is_valid c
 unfolding is_valid
 too_long_lem c h = simp (lt-leb c.len carry_size h)
 
 -- what is left to look at, where it claims no more than fifteen bytes and has fifteen places
 pub valid_by : (c : Carry) → c.len ≤ carry_size → length c.bytes ≡ carry_size
-    → blank (take (carry_size - c.len) (drop c.len c.bytes)) ≡ is_valid c
+    → blank (take (length c.bytes - c.len) (drop c.len c.bytes)) ≡ is_valid c
 unfolding is_valid
 valid_by c few places =
-    let rest = drop c.len c.bytes in
-    let long : length rest ≤ carry_size - c.len = simp length-drop (omega arith) in
-    ap blank (take_all (carry_size - c.len) rest long)
-    ∙ sym (and-true (blank rest))
+    ap blank (rest_is c.len c.bytes)
+    ∙ sym (and-true (blank (drop c.len c.bytes)))
     ∙ sym (rw (le-leb c.len carry_size few, eq-eqb (length c.bytes) carry_size places))
 
 -- what makes it one
@@ -116,9 +115,9 @@ module _ (c : Carry) (v : is_valid c ≡ true) where
 
 -- ---- how it ends
 pub finish_is : (c : Carry) (t : Bool) → is_empty c ≡ t
-    → answer_for (cond t Verdict.Passed (Verdict.Failed Refusal.NotWhole)) ≡ finish_of c
+    → answer_for (cond t (Ok tt) (Err Refusal.NotWhole)) ≡ finish_of c
 unfolding finish_of
-finish_is c t e = ap (λ (x : Bool). answer_for (cond x Verdict.Passed (Verdict.Failed Refusal.NotWhole))) (sym e)
+finish_is c t e = ap (λ (x : Bool). answer_for (cond x (Ok tt) (Err Refusal.NotWhole))) (sym e)
 
 -- accepted just if it is the empty one
 pub ends_empty : (c : Carry) → (finish_of c ≡ Answer.Accepted) ↔ (c ≡ carry_of [])

@@ -1,5 +1,6 @@
 -- A piece that passes is a run of the whole requests at hand, which are so few that the run refuses nothing (`run_passes`): its page and
 -- its buffer are the run's (`piece_ran`, `piece_lines`). Assumes nothing.
+use Rattle.std.specs.Prelude.{Ok}
 use Prim.Native.Nat.{ℕ, ◌+◌, ◌-◌, ◌*◌, ◌/◌, ◌≤◌}
 use mathlib.Core.Path.{◌≡◌, sym, ap, ◌∙◌}
 use mathlib.Core.List.{List, ◌++◌}
@@ -8,7 +9,7 @@ use lib.ListN.{length, take, drop, length-append}
 use lib.Seq.{take_at, take-append-le, drop-append-le}
 use Rattle.kinds.specs.Limits.{line_size}
 use Rattle.page_record.specs.declared.Page.{Page}
-use Rattle.requests.specs.declared.{Answer.Answer, Verdict.Verdict}
+use Rattle.requests.specs.declared.Answer.{Answer}
 use Rattle.lock.specs.declared.Outcome.{Outcome}
 use Rattle.replay.specs.Run.{requests_of, page_after, lines_of, run_verdict, ends, fills, ran_of, answers_of}
 use Rattle.replay.proofs.Judged.{passed}
@@ -36,7 +37,7 @@ module _ (page : Page) (c : Carry) (piece answers : List ℕ) (a : Fits page c (
   at_hand_lem : length l ≡ c.len + length piece
   at_hand_lem = length-append (held c) piece ∙ ap (λ (n : ℕ). n + length piece) (length_held c a.valid)
 
-  pub run_passes : run_verdict page (length (whole_of l)) (length answers) ≡ Verdict.Passed
+  pub run_passes : run_verdict page (length (whole_of l)) (length answers) ≡ Ok tt
   run_passes =
       let n = at_hand_lem in
       let w = length_whole l in
@@ -97,11 +98,11 @@ module _ (page : Page) (c : Carry) (piece answers : List ℕ) (a : Fits page c (
         r ∙ ap (λ (z : List ℕ). ran_of page z answers) first_part ∙ piece_ran in
         let left = k ∙ ap carry_of second_part in
         let n = at_hand_lem in
-        let came : gives ran rest ≡ takes page c piece Verdict.Passed =
+        let came : gives ran rest ≡ takes page c piece (Ok tt) =
         λ i. record { answer = (o i).answer; page = (o i).page; carry = left i; lines = sym n i / line_size } in (
-          came ∙ sym (taken_is page c piece answers Verdict.Passed (passes a)),
+          came ∙ sym (taken_is page c piece answers (Ok tt) (passes a)),
           y
               ∙ ap (λ (z : List ℕ). answers_of page z answers) first_part
               ∙ piece_lines
-              ∙ sym (buffer_is page c piece answers Verdict.Passed (passes a)),
+              ∙ sym (buffer_is page c piece answers (Ok tt) (passes a)),
         )

@@ -1,10 +1,10 @@
 -- One piece: what is carried and the piece are the bytes at hand, the whole requests among them are answered one after the other, and
 -- the rest is carried on. A piece that is refused touches neither the page nor the carry nor the answer buffer.
-use Rattle.std.specs.Prelude.{ℕ, ◌+◌, ◌*◌, ◌/◌, Bool, List, [], ◌∷◌, ◌++◌, leb, length, take, drop}
+use Rattle.std.specs.Prelude.{ℕ, Result, Ok, Err, ◌+◌, ◌*◌, ◌/◌, Bool, List, [], ◌∷◌, ◌++◌, leb, length, take, drop}
 use Rattle.kinds.specs.Limits.{line_size}
 use Rattle.page_record.specs.declared.Page.{Page}
 use Rattle.soundness.specs.Soundness.{sound_of}
-use Rattle.requests.specs.declared.{Refusal.Refusal, Answer.Answer, Verdict.Verdict}
+use Rattle.requests.specs.declared.{Refusal.Refusal, Answer.Answer}
 use Rattle.requests.specs.Premises.{verdict}
 use Rattle.wire.specs.Buffers.{leaves}
 use Rattle.replay.specs.Run.{requests_of, page_after, lines_of}
@@ -45,25 +45,25 @@ piece_premises sound c piece space =
     ∷ (Refusal.NoRoom, leb (whole_in (c.len + piece)) space)
     ∷ []
 
-unfoldable pub piece_verdict : Page → Carry → ℕ → ℕ → Verdict
+unfoldable pub piece_verdict : Page → Carry → ℕ → ℕ → Result (Unit {0}) Refusal
 piece_verdict page c piece space = verdict (piece_premises (sound_of page) c piece space)
 
 -- ---- what it comes to
 -- accepted: the page after the whole requests, the rest to carry, and a line for each request; a refusal leaves page and carry
-abbrev pub takes : Page → Carry → List ℕ → Verdict → Taken
-takes page c piece Verdict.Passed = record {
+abbrev pub takes : Page → Carry → List ℕ → Result (Unit {0}) Refusal → Taken
+takes page c piece (Ok _) = record {
   answer = Answer.Accepted;
   page = page_after page (requests_of (at_hand c piece));
   carry = carry_of (rest_of (at_hand c piece));
   lines = length (at_hand c piece) / line_size;
 }
-takes page c piece (Verdict.Failed why) = record { answer = Answer.Refused why; page = page; carry = c; lines = 0 }
+takes page c piece (Err why) = record { answer = Answer.Refused why; page = page; carry = c; lines = 0 }
 
 unfoldable pub taken_of : Page → Carry → List ℕ → List ℕ → Taken
 taken_of page c piece answers = takes page c piece (piece_verdict page c (length piece) (length answers))
 
 -- the lines, and what stood past them; a refusal leaves the buffer
-abbrev pub puts : Page → Carry → List ℕ → List ℕ → Verdict → List ℕ
+abbrev pub puts : Page → Carry → List ℕ → List ℕ → Result (Unit {0}) Refusal → List ℕ
 puts page c piece answers v = leaves (whole_in (length (at_hand c piece))) v (lines_of page (requests_of (at_hand c piece))) answers
 
 unfoldable pub buffer_after : Page → Carry → List ℕ → List ℕ → List ℕ

@@ -7,8 +7,9 @@ ghost use Rattle.pieces.specs.Carries.{carry_size, carry_of, is_valid, finish_of
 ghost use Rattle.pieces.specs.Pieces.{joined_in, piece_verdict, taken_of, buffer_after};
 
 use kinds::LINE;
+use lock::Outcome;
 use page_record::Page;
-use requests::{Answer, Refusal, Verdict};
+use requests::{Answer, Refusal};
 
 // The most bytes of a piece.
 pub const PIECE: usize = 4_096;
@@ -20,6 +21,7 @@ pub const CARRY: usize = LINE - 1;
 const AT_HAND: usize = CARRY + PIECE;
 
 // What is left of a request between two pieces: the first `len` bytes, and zeros.
+// An array with its length: there is no heap, and `is_valid` and the refusal 12 (`piece_verdict`) are about a `len` that is wrong.
 #[derive(Clone, Copy)]
 pub struct Carry {
     pub bytes: [u8; CARRY],
@@ -40,8 +42,10 @@ pub struct Taken {
 pub fn empty() -> Carry
     ensures { result ≡ carry_of [] }
 {
-    let bytes = [0u8; CARRY];
-    Carry { bytes, len: 0 }
+    Carry {
+        bytes: [0u8; CARRY],
+        len: 0,
+    }
 }
 
 // These bytes are carried.
@@ -50,42 +54,39 @@ fn carry_of(rest: &[u8]) -> Carry
     ensures { result ≡ carry_of rest.now }
 {
     let mut bytes = [0u8; CARRY];
-    let len = rest.len();
-    bytes[..len].copy_from_slice(rest);
-    Carry { bytes, len }
+    bytes[..rest.len()].copy_from_slice(rest);
+    Carry {
+        bytes,
+        len: rest.len(),
+    }
 }
 
 // Whether it claims no more bytes than it has places, and is zero past those that it claims.
 fn is_valid(carry: Carry) -> bool
     ensures { result ≡ is_valid carry }
 {
-    let len = carry.len;
-    if CARRY < len {
-        return false;
-    }
-    let bytes = carry.bytes;
-    wire::is_blank(&bytes[len..])
+    carry.len <= CARRY && wire::is_blank(&carry.bytes[carry.len..])
 }
 
 // Numbers 1, 12, 13 and 14: what is asked of a piece of so many bytes, with so much space for its answers.
 #[tactic(auto, unfolding(crate::specs::Pieces::piece_verdict))]
-fn judge_piece(page: Page, carry: Carry, piece: usize, space: usize) -> Verdict
+fn judge_piece(page: Page, carry: Carry, piece: usize, space: usize) -> Result<(), Refusal>
     ensures { result ≡ piece_verdict page carry piece space }
 {
     if !soundness::is_sound(page) {
-        return Verdict::Failed(Refusal::Unsound);
+        return Err(Refusal::Unsound);
     }
     if !is_valid(carry) {
-        return Verdict::Failed(Refusal::NotWhole);
+        return Err(Refusal::NotWhole);
     }
     if PIECE < piece {
-        return Verdict::Failed(Refusal::TooMany);
+        return Err(Refusal::TooMany);
     }
     let requests = (carry.len + piece) / LINE;
     if space < LINE * requests {
-        return Verdict::Failed(Refusal::NoRoom);
+        return Err(Refusal::NoRoom);
     }
-    Verdict::Passed
+    Ok(())
 }
 
 // What is carried, and then the piece, to the start of a buffer.
@@ -94,11 +95,9 @@ fn join(carry: Carry, piece: &[u8], out: &mut [u8])
     requires room { carry.len + length piece.now ≤ length out.old }
     ensures { out.new ≡ joined_in carry piece.now out.old }
 {
-    let len = carry.len;
-    let bytes = carry.bytes;
-    out[..len].copy_from_slice(&bytes[..len]);
-    let end = len + piece.len();
-    out[len..end].copy_from_slice(piece);
+    let end = carry.len + piece.len();
+    out[..carry.len].copy_from_slice(&carry.bytes[..carry.len]);
+    out[carry.len..end].copy_from_slice(piece);
 }
 
 // One piece. The whole requests at hand are answered, as a run of them, and the rest is carried. A piece that is refused touches
@@ -107,11 +106,9 @@ pub fn take(page: Page, carry: Carry, piece: &[u8], answers: &mut [u8]) -> Taken
     ensures end { result ≡ taken_of page carry piece.now answers.old }
     ensures lines { answers.new ≡ buffer_after page carry piece.now answers.old }
 {
-    let verdict = judge_piece(page, carry, piece.len(), answers.len());
-    if let Verdict::Failed(why) = verdict {
-        let answer = Answer::Refused(why);
+    if let Err(why) = judge_piece(page, carry, piece.len(), answers.len()) {
         return Taken {
-            answer,
+            answer: Answer::Refused(why),
             page,
             carry,
             lines: 0,
@@ -122,13 +119,11 @@ pub fn take(page: Page, carry: Carry, piece: &[u8], answers: &mut [u8]) -> Taken
     let end = carry.len + piece.len();
     let lines = end / LINE;
     let whole = LINE * lines;
-    let ran = replay::run(page, &all[..whole], answers);
+    let Outcome { answer, page } = replay::run(page, &all[..whole], answers);
     let rest = carry_of(&all[whole..end]);
-    let answer = ran.answer;
-    let left = ran.page;
     Taken {
         answer,
-        page: left,
+        page,
         carry: rest,
         lines,
     }
@@ -138,7 +133,7 @@ pub fn take(page: Page, carry: Carry, piece: &[u8], answers: &mut [u8]) -> Taken
 pub fn finish(carry: Carry) -> Answer
     ensures { result ≡ finish_of carry }
 {
-    if (carry.len == 0) & is_valid(carry) {
+    if carry.len == 0 && is_valid(carry) {
         return Answer::Accepted;
     }
     Answer::Refused(Refusal::NotWhole)

@@ -3,13 +3,13 @@
 -- `removed_listed`). No law names the capacity's number. Assumes nothing.
 use Prim.Native.Nat.{ℕ, suc, ◌+◌, ◌-◌, ◌<◌, ◌≤◌}
 use mathlib.Core.Path.{◌≡◌, sym, ◌∙◌}
-use mathlib.Core.Bool.{true}
 use mathlib.Core.List.{List, [], ◌∷◌, ◌++◌}
 use native.Mathlib.Omega.{arith}
 use borrow.Author.Tests.{lt-ltb, le-leb}
 use lib.Dec.{T}
 use lib.ListN.{length, drop, set, replicate, length-append, length-drop, length-set, length-replicate, take-append-drop}
 use lib.Seq.{take-append_seam, drop-append_seam, set-append_seam, set-append_left, append_snoc, length-take-le}
+use Rattle.std.specs.Prelude.{Ok}
 use Rattle.laws.specs.Lists.{without}
 use Rattle.laws.proofs.Lists.{length_without, every_replicate, every_only}
 use Rattle.kinds.specs.declared.Reader.{Reader}
@@ -46,7 +46,7 @@ module _ (rs : Readers) (full : length rs.items ≡ capacity) (fits : rs.len ≤
 
 -- ---- the changes
 module _ (l : List Reader) (r : Reader) where
-  pub pushed_listed : length l < capacity → pushed (listed l) r ≡ record { ok = true; readers = listed (l ++ r ∷ []) }
+  pub pushed_listed : length l < capacity → pushed (listed l) r ≡ Ok (listed (l ++ r ∷ []))
   unfolding pushed
   pushed_listed h =
       let e : length (l ++ r ∷ []) ≡ length l + 1 = length-append l (r ∷ []) in

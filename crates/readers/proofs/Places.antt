@@ -1,15 +1,15 @@
--- What a removal leaves, place by place and test by test (`places`): the array after it has two entries set (`removed_items`), and its
--- list is without the one (`live_removed`). Assumes nothing.
+-- What a removal leaves, place by place and test by test (`places`): the array after it has two entries set (`removed_items`, and by
+-- what `remove` tests, `removed_is`), and its list is without the one (`live_removed`). Assumes nothing.
 use Prim.Native.Nat.{ℕ, ◌+◌, ◌-◌, ◌<◌, ◌≤◌}
 use mathlib.Core.Path.{◌≡◌, ◌∙◌}
 use mathlib.Core.Bool.{Bool, cond}
 use mathlib.Core.List.{List, ◌∷◌}
 use native.Mathlib.Omega.{arith}
-use lib.Dec.{T, leb, ltb, leb→le, ltb→lt}
-use lib.ListN.{length, drop, set, length-set}
+use lib.Dec.{T, leb, ltb, leb→le, ltb→lt, le→leb, lt→ltb}
+use lib.ListN.{length, drop, get_or, set, length-set}
 use lib.Seq.{get_or-set_same, get_or-set_other, get_or-take, take_at}
 use Rattle.laws.specs.Lists.{tally, without}
-use Rattle.laws.proofs.Tests.{to_true, halves}
+use Rattle.laws.proofs.Tests.{to_true, both, halves}
 use Rattle.laws.proofs.Lists.{length_without, filled, tally_without}
 use Rattle.kinds.specs.declared.Reader.{Reader}
 use Rattle.kinds.specs.Limits.{capacity}
@@ -69,3 +69,9 @@ module _ (rs : Readers) (at : ℕ) (full : length rs.items ≡ capacity) (here :
             get_or-set_other moved (rs.len - 1) place blank_reader blank_reader (λ e. omega arith)
             ∙ get_or-set_other rs.items at place (entry rs (rs.len - 1)) blank_reader (λ e. omega arith);
       }
+
+-- the array after it, by what its function tests
+pub removed_is : (rs : Readers) (at : ℕ) → length rs.items ≡ capacity → rs.len ≤ capacity → at < rs.len
+    → removed_at rs at
+    ≡ record { items = set (set rs.items at (get_or rs.items (rs.len - 1) blank_reader)) (rs.len - 1) blank_reader; len = rs.len - 1 }
+removed_is rs at full h k = removed_items rs at full (both (leb rs.len capacity) (ltb at rs.len) (le→leb _ _ h) (lt→ltb _ _ k))

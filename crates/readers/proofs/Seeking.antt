@@ -2,6 +2,7 @@
 -- `find_from` (`clause`), and goes one of three ways: the reader there is equal (`hit`), or it is another by its phase or by its
 -- bucket and is passed over (`other_phase`, `other_bucket`). Where nothing is left, no reader is equal (`past_length`,
 -- `past_array`). Assumes nothing.
+use Rattle.std.specs.Prelude.{Some, None}
 use Prim.Native.Nat.{ℕ, ◌+◌, ◌≤◌, ◌<◌}
 use mathlib.Core.Path.{◌≡◌, ◌∙◌, sym}
 use mathlib.Core.Bool.{true, false, cond, and-false}
@@ -11,7 +12,6 @@ use borrow.Author.Tests.{eq-eqb, ne_eqb}
 use Rattle.laws.proofs.Turns.{past, past_all, turn}
 use Rattle.kinds.specs.declared.Reader.{Reader}
 use Rattle.kinds.specs.Limits.{capacity}
-use Rattle.readers.specs.declared.Found.{Found}
 use Rattle.readers.specs.Same.{same_phase, same_reader}
 use Rattle.readers.specs.Listed.{find_in, find_from, blank_reader}
 use lib.ListN.{length, take, drop, get_or}
@@ -27,12 +27,12 @@ module _ {want : Reader} {items : List Reader} {len i : ℕ} (so_far : Seeking w
     there = get_or items i blank_reader
 
     clause : find_in (take len items) want
-        ≡ cond (same_reader there want) (Found.At i) (find_from (i + 1) (drop (i + 1) (take len items)) want)
+        ≡ cond (same_reader there want) (Some i) (find_from (i + 1) (drop (i + 1) (take len items)) want)
     clause =
         let inside : i < length items = omega (arith, so_far.full) in
         so_far.whole ∙ rw (turn blank_reader items i)
 
-    pub hit : there.bucket.0 ≡ want.bucket.0 → same_phase there.phase want.phase ≡ true → Found.At i ≡ find_in (take len items) want
+    pub hit : there.bucket.0 ≡ want.bucket.0 → same_phase there.phase want.phase ≡ true → Some i ≡ find_in (take len items) want
     hit b p = sym (clause ∙ simp (p, eq-eqb _ _ b))
 
     pub other_phase : same_phase there.phase want.phase ≡ false → Seeking want items len (i + 1)
@@ -42,10 +42,10 @@ module _ {want : Reader} {items : List Reader} {len i : ℕ} (so_far : Seeking w
     other_bucket b = record { full = so_far.full; whole = clause ∙ simp (ne_eqb _ _ b, and-false) }
 
   -- ---- nothing is left: past the length, or past the array's end
-  pub past_length : len ≤ i → Found.Nowhere ≡ find_in (take len items) want
+  pub past_length : len ≤ i → None ≡ find_in (take len items) want
   past_length h = sym (so_far.whole ∙ simp past)
 
-  pub past_array : capacity ≤ i → Found.Nowhere ≡ find_in (take len items) want
+  pub past_array : capacity ≤ i → None ≡ find_in (take len items) want
   past_array h =
       let k : length items ≤ i = omega (arith, so_far.full) in
       sym (so_far.whole ∙ simp past_all)

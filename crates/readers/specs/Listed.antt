@@ -1,11 +1,11 @@
 -- The bounded list of readers: an array, of which the first `len` entries are the list and the others are blank.
 -- What each function of the crate answers, for any value of its types, well kept or not.
-use Rattle.std.specs.Prelude.{ℕ, ◌+◌, ◌-◌, Bool, true, false, cond, ◌&&◌, List, [], ◌∷◌, ◌++◌, eqb, ltb, leb, length, take, drop, set, replicate}
+use Rattle.std.specs.Prelude.{ℕ, Option, Some, None, ◌+◌, ◌-◌, Bool, cond, ◌&&◌, Result, Ok, Err, List, [], ◌∷◌, ◌++◌, eqb, ltb, leb, length, take, drop, set, replicate}
 use Rattle.laws.specs.Lists.{tally, every, without}
 use Rattle.kinds.specs.declared.{Phase.Phase, Reader.Reader}
 use Rattle.kinds.specs.Limits.{capacity}
 use Rattle.kinds.specs.Numbers.{phase_number}
-use Rattle.readers.specs.declared.{Readers.Readers, Found.Found, Pushed.Pushed}
+use Rattle.readers.specs.declared.Readers.{Readers}
 use Rattle.readers.specs.Same.{same_reader}
 
 -- ---- the array and the list
@@ -27,11 +27,11 @@ blank_past rs = every (same_reader blank_reader) (drop rs.len rs.items)
 
 -- ---- searching and counting
 -- the place of the first reader equal to x, counted from i
-abbrev pub find_from : ℕ → List Reader → Reader → Found
-find_from i [] x = Found.Nowhere
-find_from i (r ∷ rs) x = cond (same_reader r x) (Found.At i) (find_from (i + 1) rs x)
+abbrev pub find_from : ℕ → List Reader → Reader → Option ℕ
+find_from i [] x = None
+find_from i (r ∷ rs) x = cond (same_reader r x) (Some i) (find_from (i + 1) rs x)
 
-abbrev pub find_in : List Reader → Reader → Found
+abbrev pub find_in : List Reader → Reader → Option ℕ
 find_in rs x = find_from 0 rs x
 
 -- a reader at bucket b
@@ -55,12 +55,14 @@ count_in b phase l = tally (is_in b phase) l
 unfoldable pub no_readers : Readers
 no_readers = listed []
 
--- r at the end where there is room; else nothing changes
-unfoldable pub pushed : Readers → Reader → Pushed
-pushed rs r =
-    cond (ltb rs.len capacity)
-    (record { ok = true; readers = record { items = set rs.items rs.len r; len = rs.len + 1 } })
-    (record { ok = false; readers = rs })
+-- r at the end where there is room; else an error, and nothing changes
+unfoldable pub pushed : Readers → Reader → Result Readers Readers
+pushed rs r = cond (ltb rs.len capacity) (Ok (record { items = set rs.items rs.len r; len = rs.len + 1 })) (Err rs)
+
+-- the list after it, longer or as it was
+abbrev pub after_push : Result Readers Readers → Readers
+after_push (Ok rs) = rs
+after_push (Err rs) = rs
 
 -- `at` is the place of a reader that counts, in a list that is not longer than its array
 abbrev pub placed : Readers → ℕ → Bool

@@ -3,75 +3,35 @@
 // equation.
 #![tactic(auto)]
 
-ghost use Rattle.std.specs.Prelude.{◌≡◌};
-ghost use Rattle.readers.specs.Same.{same_phase, same_reader};
+ghost use Rattle.std.specs.Prelude.{◌≡◌, position};
+ghost use Rattle.readers.specs.Same.{same_reader};
 ghost use Rattle.readers.specs.Listed.{live, blank_reader, blank_past, find_in, count_at, is_in, count_in, no_readers};
 ghost use Rattle.readers.specs.Listed.{pushed, put_at, removed_at};
 
 use kinds::{Bucket, CAPACITY, Phase, Reader, phase_number};
 
-// The array, and how many of its entries count.
+// The array, and how many of its entries count: a record has no heap, so an array with its length and no `Vec`.
 #[derive(Clone, Copy)]
 pub struct Readers {
     pub items: [Reader; CAPACITY],
     pub len: usize,
 }
 
-// What a search answers: a place, or that there is none.
-#[derive(Clone, Copy)]
-pub enum Found {
-    At(usize),
-    Nowhere,
-}
-
-// The list with one more, or as it was where it is full. An enum may not hold an array, so this is a struct.
-#[derive(Clone, Copy)]
-pub struct Pushed {
-    pub ok: bool,
-    pub readers: Readers,
-}
-
-// Whether two phases are the same, with the same value where they have one.
-fn same_phase(a: Phase, b: Phase) -> bool
-    ensures { result ≡ same_phase a b }
-{
-    match a {
-        Phase::Pending => match b {
-            Phase::Pending => true,
-            Phase::Pending2 => false,
-            Phase::Obtained(_) => false,
-        },
-        Phase::Pending2 => match b {
-            Phase::Pending => false,
-            Phase::Pending2 => true,
-            Phase::Obtained(_) => false,
-        },
-        Phase::Obtained(x) => match b {
-            Phase::Pending => false,
-            Phase::Pending2 => false,
-            Phase::Obtained(y) => x == y,
-        },
-    }
-}
-
 // Whether two readers are the same: phase, value and bucket.
 pub fn same(a: Reader, b: Reader) -> bool
     ensures { result ≡ same_reader a b }
 {
-    let p = a.phase;
-    let q = b.phase;
-    let x = a.bucket;
-    let y = b.bucket;
-    if same_phase(p, q) { x.0 == y.0 } else { false }
+    a == b
 }
 
 // The filling of an unused entry.
 pub fn blank() -> Reader
     ensures { result ≡ blank_reader }
 {
-    let phase = Phase::Pending;
-    let bucket = Bucket(0);
-    Reader { phase, bucket }
+    Reader {
+        phase: Phase::Pending,
+        bucket: Bucket(0),
+    }
 }
 
 // No readers.
@@ -79,160 +39,98 @@ pub fn blank() -> Reader
 pub fn empty() -> Readers
     ensures { result ≡ no_readers }
 {
-    let nobody = blank();
-    let items = [nobody; CAPACITY];
-    Readers { items, len: 0 }
+    Readers {
+        items: [blank(); CAPACITY],
+        len: 0,
+    }
 }
 
-// The place of the first reader equal to `want`. The bucket is compared first, the phase with its value only where that agrees.
-pub fn find(rs: Readers, want: Reader) -> Found
+// The readers that count: the first `len` of the array, and no more than it has.
+pub fn live(rs: &Readers) -> &[Reader]
+    ensures { result.now ≡ live rs.now }
+{
+    &rs.items[..rs.len.min(CAPACITY)]
+}
+
+// The place of the first of these readers equal to `want`: the search stops there. The bucket is compared first, the phase with its
+// value only where that agrees.
+fn place_of(readers: &[Reader], want: Reader) -> Option<usize>
+    ensures { result ≡ position (λ r. same_reader r want) readers.now }
+{
+    readers
+        .iter()
+        .position(|r| r.bucket == want.bucket && r.phase == want.phase)
+}
+
+// The place of the first reader equal to `want`.
+#[tactic(auto, using(crate::proofs::First::found_by_position))]
+pub fn find(rs: Readers, want: Reader) -> Option<usize>
     ensures { result ≡ find_in (live rs) want }
 {
-    let len = rs.len;
-    let mut place: usize = 0;
-    while place < CAPACITY {
-        if len <= place {
-            return Found::Nowhere;
-        }
-        let r = rs.items[place];
-        if r.bucket.0 == want.bucket.0 {
-            let p = r.phase;
-            let q = want.phase;
-            if same_phase(p, q) {
-                return Found::At(place);
-            }
-        }
-        place += 1;
-    }
-    Found::Nowhere
+    place_of(live(&rs), want)
 }
 
 // How many readers stand at a bucket.
+#[tactic(auto, using(laws::proofs::Words::tally_is))]
 pub fn count_at(rs: Readers, bucket: Bucket) -> usize
     ensures { result ≡ count_at bucket.0 (live rs) }
 {
-    let len = rs.len;
-    let mut n: usize = 0;
-    let mut i: usize = 0;
-    while i < CAPACITY {
-        if len <= i {
-            return n;
-        }
-        let r = rs.items[i];
-        let b = r.bucket;
-        if b.0 == bucket.0 {
-            n += 1;
-        }
-        i += 1;
-    }
-    n
+    live(&rs).iter().filter(|r| r.bucket == bucket).count()
 }
 
-// Whether a reader stands at a bucket in the phase of this number.
-fn stands_in(r: Reader, bucket: Bucket, phase: u8) -> bool
-    ensures { result ≡ is_in bucket.0 phase r }
-{
-    let b = r.bucket;
-    let p = r.phase;
-    if b.0 == bucket.0 {
-        phase_number(p) == phase
-    } else {
-        false
-    }
-}
-
-// How many readers stand at a bucket in the phase of this number, 1 to 3.
+// How many readers stand at a bucket in the phase of this number, 1 to 3: a number, as in the clause `count_in` and in `phases_sum`.
+#[tactic(auto, using(laws::proofs::Words::tally_is))]
 pub fn count_in(rs: Readers, bucket: Bucket, phase: u8) -> usize
     ensures { result ≡ count_in bucket.0 phase (live rs) }
 {
-    let len = rs.len;
-    let mut n: usize = 0;
-    let mut i: usize = 0;
-    while i < CAPACITY {
-        if len <= i {
-            return n;
-        }
-        let r = rs.items[i];
-        if stands_in(r, bucket, phase) {
-            n += 1;
-        }
-        i += 1;
-    }
-    n
+    live(&rs)
+        .iter()
+        .filter(|r| r.bucket == bucket && phase_number(r.phase) == phase)
+        .count()
 }
 
 // Whether every entry past the length is blank.
 pub fn blank_past(rs: Readers) -> bool
     ensures { result ≡ blank_past rs }
 {
-    let mut i = rs.len;
-    while i < CAPACITY {
-        let r = rs.items[i];
-        if !same(blank(), r) {
-            return false;
-        }
-        i += 1;
-    }
-    true
+    let nobody = blank();
+    rs.items.iter().skip(rs.len).all(|r| nobody == *r)
 }
 
-// One more at the end, where there is room.
+// One more at the end; an error, the list as it was, where it is full.
 #[tactic(auto, unfolding(crate::specs::Listed::pushed))]
-pub fn push(rs: Readers, r: Reader) -> Pushed
+pub fn push(mut rs: Readers, r: Reader) -> Result<Readers, Readers>
     ensures { result ≡ pushed rs r }
 {
-    let len = rs.len;
-    if len < CAPACITY {
-        let mut items = rs.items;
-        items[len] = r;
-        let readers = Readers {
-            items,
-            len: len + 1,
-        };
-        Pushed { ok: true, readers }
+    if rs.len < CAPACITY {
+        rs.items[rs.len] = r;
+        rs.len += 1;
+        Ok(rs)
     } else {
-        Pushed {
-            ok: false,
-            readers: rs,
-        }
+        Err(rs)
     }
 }
 
 // Another reader in the place of the one that stands there.
 #[tactic(auto, unfolding(crate::specs::Listed::put_at))]
-pub fn put(rs: Readers, at: usize, r: Reader) -> Readers
+pub fn put(mut rs: Readers, at: usize, r: Reader) -> Readers
     ensures { result ≡ put_at rs at r }
 {
-    let len = rs.len;
-    if CAPACITY < len {
-        return rs;
+    if rs.len <= CAPACITY && at < rs.len {
+        rs.items[at] = r;
     }
-    if len <= at {
-        return rs;
-    }
-    let mut items = rs.items;
-    items[at] = r;
-    Readers { items, len }
+    rs
 }
 
 // The reader at a place taken out: the last one fills the gap.
-#[tactic(auto, unfolding(crate::specs::Listed::removed_at))]
-pub fn remove(rs: Readers, at: usize) -> Readers
+#[tactic(auto, using(crate::proofs::Places::removed_is), unfolding(crate::specs::Listed::removed_at))]
+pub fn remove(mut rs: Readers, at: usize) -> Readers
     ensures { result ≡ removed_at rs at }
 {
-    let len = rs.len;
-    if CAPACITY < len {
-        return rs;
+    if rs.len <= CAPACITY && at < rs.len {
+        rs.len -= 1;
+        rs.items[at] = rs.items[rs.len];
+        rs.items[rs.len] = blank();
     }
-    if len <= at {
-        return rs;
-    }
-    let mut items = rs.items;
-    let last = items[len - 1];
-    items[at] = last;
-    items[len - 1] = blank();
-    Readers {
-        items,
-        len: len - 1,
-    }
+    rs
 }

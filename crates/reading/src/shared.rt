@@ -8,15 +8,13 @@ ghost use Rattle.reading.specs.Steps.{shared_inc_count, shared_dec_count, shared
 use heads::{Decision, Edit, accept, lower, number_at, refuse, value_of, with_number};
 use kinds::{CEILING, Phase, Reader, not_loading, open_to_readers};
 use page_record::Head;
-use readers::Found;
 use requests::{Refusal, Request};
 
 // 19: a reader comes to a bucket.
 pub fn shared_inc_count(h: Head, q: Request, full: bool) -> Decision
     ensures { result ≡ decided h (shared_inc_count h q full) }
 {
-    let bucket = q.bucket;
-    let n = number_at(h, bucket);
+    let n = number_at(h, q.bucket);
     if n >= CEILING {
         return refuse(h, Refusal::AtCeiling);
     }
@@ -25,58 +23,53 @@ pub fn shared_inc_count(h: Head, q: Request, full: bool) -> Decision
     }
     let reader = Reader {
         phase: Phase::Pending,
-        bucket,
+        bucket: q.bucket,
     };
-    accept(with_number(h, bucket, n + 1), Edit::Push(reader))
+    accept(with_number(h, q.bucket, n + 1), Edit::Push(reader))
 }
 
 // 20, 21 and 22, the source's shared_dec_count_pending, _pending2 and _obtained: the reader that is found leaves. They differ in
 // the phase of the reader that is sought (`sought_by`), before the first check, past it, and past both.
-pub fn shared_dec_count(h: Head, q: Request, found: Found) -> Decision
+pub fn shared_dec_count(h: Head, q: Request, found: Option<usize>) -> Decision
     ensures { result ≡ decided h (shared_dec_count h q found) }
 {
-    let bucket = q.bucket;
-    let Found::At(place) = found else {
+    let Some(place) = found else {
         return refuse(h, Refusal::NoHolder);
     };
-    accept(lower(h, bucket), Edit::Remove(place))
+    accept(lower(h, q.bucket), Edit::Remove(place))
 }
 
 // 23: the first check, that readers aren't shut out. Changed: it takes no value.
-pub fn shared_check_exc(h: Head, q: Request, found: Found) -> Decision
+pub fn shared_check_exc(h: Head, q: Request, found: Option<usize>) -> Decision
     ensures { result ≡ decided h (shared_check_exc h q found) }
 {
-    let flag = h.flag;
-    let bucket = q.bucket;
-    if !open_to_readers(flag) {
+    if !open_to_readers(h.flag) {
         return refuse(h, Refusal::WrongFlag);
     }
-    let Found::At(place) = found else {
+    let Some(place) = found else {
         return refuse(h, Refusal::NoHolder);
     };
     let reader = Reader {
         phase: Phase::Pending2,
-        bucket,
+        bucket: q.bucket,
     };
     accept(h, Edit::Put(place, reader))
 }
 
 // 24: the second check, that nobody loads; the reader now holds the value in storage.
-pub fn shared_check_loading(h: Head, q: Request, found: Found) -> Decision
+// 23 and 24 stay two functions, as in the source: the test and the phase are others, so one for both would be handed everything.
+pub fn shared_check_loading(h: Head, q: Request, found: Option<usize>) -> Decision
     ensures { result ≡ decided h (shared_check_loading h q found) }
 {
-    let storage = h.storage;
-    let flag = h.flag;
-    let bucket = q.bucket;
-    if !not_loading(flag) {
+    if !not_loading(h.flag) {
         return refuse(h, Refusal::WrongFlag);
     }
-    let Found::At(place) = found else {
+    let Some(place) = found else {
         return refuse(h, Refusal::NoHolder);
     };
     let reader = Reader {
-        phase: Phase::Obtained(value_of(storage)),
-        bucket,
+        phase: Phase::Obtained(value_of(h.storage)),
+        bucket: q.bucket,
     };
     accept(h, Edit::Put(place, reader))
 }

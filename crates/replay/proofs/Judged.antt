@@ -1,6 +1,7 @@
 -- What the judgement of a run as a whole says. A run that passes has all that is asked of it, and the other way round; the
 -- answer of a run tells how it was judged; and the program judges its input as a run of all its bytes, though it keeps no more
 -- of them than a run takes. Assumes nothing.
+use Rattle.std.specs.Prelude.{Result, Ok, Err}
 use Prim.Native.Nat.{ℕ, ◌*◌, ◌/◌, ◌%◌, ◌<◌, ◌≤◌}
 use mathlib.Core.Path.{◌≡◌, refl, ◌∙◌}
 use mathlib.Core.Bool.{Bool, true, false}
@@ -16,7 +17,7 @@ use Rattle.page_record.specs.declared.Page.{Page}
 use Rattle.page_record.specs.Pages.{fresh_page}
 use Rattle.soundness.specs.Soundness.{sound_of}
 use Rattle.soundness.proofs.FreshPage.{fresh_sound}
-use Rattle.requests.specs.declared.{Refusal.Refusal, Answer.Answer, Verdict.Verdict}
+use Rattle.requests.specs.declared.{Refusal.Refusal, Answer.Answer}
 use Rattle.requests.proofs.Verdicts.{passed as all_hold}
 use Rattle.wire.specs.Buffers.{answer_for}
 use Rattle.wire.proofs.Premises.{answer_passed, answer_failed}
@@ -32,7 +33,7 @@ pub record Fit (page : Page) (bytes space : ℕ) : Type 0 where
   pub room : line_size * (bytes / line_size) ≤ space
 
 module _ {page : Page} {bytes space : ℕ} where
-  pub fit : run_verdict page bytes space ≡ Verdict.Passed → Fit page bytes space
+  pub fit : run_verdict page bytes space ≡ Ok tt → Fit page bytes space
   unfolding run_verdict
   fit e =
       let p = all_hold (whole_premises (sound_of page) bytes space) e in
@@ -43,26 +44,26 @@ module _ {page : Page} {bytes space : ℕ} where
         room = leb→le (line_size * (bytes / line_size)) space p.1.1.1.0;
       }
 
-  pub passed : Fit page bytes space → run_verdict page bytes space ≡ Verdict.Passed
+  pub passed : Fit page bytes space → run_verdict page bytes space ≡ Ok tt
   unfolding run_verdict
   passed a = simp (a.sound, eq-eqb _ _ a.whole, le-leb _ _ a.few, le-leb _ _ a.room)
 
 -- ---- the answer tells the verdict
 -- a run is answered as a writing is
-pub ends_answer : (page : Page) (requests : List ℕ) (v : Verdict) → answer_for v ≡ (ends page requests v).answer
-ends_answer page requests Verdict.Passed = refl
-ends_answer page requests (Verdict.Failed why) = refl
+pub ends_answer : (page : Page) (requests : List ℕ) (v : Result (Unit {0}) Refusal) → answer_for v ≡ (ends page requests v).answer
+ends_answer page requests (Ok _) = refl
+ends_answer page requests (Err why) = refl
 
 module _ (page : Page) (requests answers : List ℕ) where
   pub verdict_accepted : (ran_of page requests answers).answer ≡ Answer.Accepted
-      → run_verdict page (length requests) (length answers) ≡ Verdict.Passed
+      → run_verdict page (length requests) (length answers) ≡ Ok tt
   unfolding ran_of
   verdict_accepted e =
       let v = run_verdict page (length requests) (length answers) in
       answer_passed v (ends_answer page requests v ∙ e)
 
   pub verdict_refused : (why : Refusal) → (ran_of page requests answers).answer ≡ Answer.Refused why
-      → run_verdict page (length requests) (length answers) ≡ Verdict.Failed why
+      → run_verdict page (length requests) (length answers) ≡ Err why
   unfolding ran_of
   verdict_refused why e =
       let v = run_verdict page (length requests) (length answers) in
@@ -72,7 +73,7 @@ module _ (page : Page) (requests answers : List ℕ) where
 module _ (total space : ℕ) (long : longest < total) where
   -- an input that is longer than a run is refused for what the run is refused for
   judged_long : (whole : Bool) → eqb (total % line_size) 0 ≡ whole
-      → Verdict.Failed (too_long total) ≡ run_verdict (fresh_page 0) total space
+      → Err (too_long total) ≡ run_verdict (fresh_page 0) total space
   unfolding run_verdict
   judged_long true e =
       let many : most_requests < total / line_size = omega (arith, eqb-true (total % line_size) 0 e) in

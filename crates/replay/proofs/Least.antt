@@ -1,5 +1,6 @@
 -- The run as a whole gives the first number that applies to it (`run_number`), and each of its lines, on a sound page, the first
 -- that applies to its bytes there (`line_number`). A run's own answer carries no value (`run_plain`). Assumes nothing.
+use Rattle.std.specs.Prelude.{Result, Ok, Err}
 use Prim.Native.Nat.{ℕ, ◌*◌, ◌/◌}
 use mathlib.Core.Path.{◌≡◌, refl, sym, ap, ◌∙◌}
 use mathlib.Core.Bool.{true, false, not-not}
@@ -21,7 +22,6 @@ use Rattle.requests.proofs.Least.{judged_number}
 use Rattle.lock.specs.declared.Outcome.{Outcome}
 use Rattle.lock.specs.Applies.{applying_step, applying}
 use Rattle.lock.proofs.Least.{least_number}
-use Rattle.wire.specs.declared.Reading.{Reading}
 use Rattle.wire.specs.Requests.{fields_of, reading_number, read_of}
 use Rattle.wire.specs.Applies.{applying_bytes}
 use Rattle.wire.proofs.Least.{read_whole, answer_number_lem, answer_plain}
@@ -54,7 +54,7 @@ module _ (p : Page) (requests answers : List ℕ) where
 -- ---- one line
 module _ (p : Page) (l : List ℕ) (sound : sound_of p ≡ true) (whole : length l ≡ line_size) where
   -- what is read as a request is answered by its step: of its fields and of its bytes no number applies
-  line_read : (q : Request) → read_of l ≡ Reading.Request q
+  line_read : (q : Request) → read_of l ≡ Ok q
       → answer_number (turn_of p l).answer ≡ first_applying (applying_bytes l ++ applying_step p (fields_of l))
   line_read q e =
       let a = accepted l q e in
@@ -69,7 +69,7 @@ module _ (p : Page) (l : List ℕ) (sound : sound_of p ≡ true) (whole : length
       ∙ ap (λ (x : Request). first_applying (applying_bytes l ++ applying_step p x)) (sym a.fields)
 
   -- what is not is refused for the first number that applies to its bytes
-  line_refused : (why : Refusal) → read_of l ≡ Reading.Refused why
+  line_refused : (why : Refusal) → read_of l ≡ Err why
       → answer_number (turn_of p l).answer ≡ first_applying (applying_bytes l ++ applying_step p (fields_of l))
   line_refused why e =
       let here = sym (read_whole l whole) ∙ ap reading_number e in
@@ -79,7 +79,7 @@ module _ (p : Page) (l : List ℕ) (sound : sound_of p ≡ true) (whole : length
   pub line_number : answer_number (turn_of p l).answer ≡ first_applying (applying_line p l)
   line_number = rw sound (go (read_of l) refl)
     where
-      go : (r : Reading) → read_of l ≡ r
+      go : (r : Result Request Refusal) → read_of l ≡ r
           → answer_number (turn_of p l).answer ≡ first_applying (applying_bytes l ++ applying_step p (fields_of l))
-      go (Reading.Request q) e = line_read q e
-      go (Reading.Refused why) e = line_refused why e
+      go (Ok q) e = line_read q e
+      go (Err why) e = line_refused why e

@@ -1,6 +1,7 @@
 -- The answers of a run. In one that is accepted line k is the answer to request k, from the page that the first k requests
 -- left, the page at the end is the one that all of them leave, and the bytes past the last line are as they were. In order:
 -- the lines, the buffer, a run that is accepted. Assumes nothing.
+use Rattle.std.specs.Prelude.{Result, Ok}
 use Prim.Native.Nat.{ℕ, zero, suc, ◌+◌, ◌*◌, ◌/◌, ◌<◌, ◌≤◌}
 use mathlib.Core.Path.{◌≡◌, refl, ap, ◌∙◌, sym}
 use mathlib.Core.List.{List, [], ◌∷◌, ◌++◌, append_assoc}
@@ -10,7 +11,8 @@ use lib.ListN.{length, take, drop, get_or, length-append, length-drop}
 use lib.Seq.{take_at, take-append-le, drop-append-le, drop-append-add}
 use Rattle.kinds.specs.Limits.{line_size}
 use Rattle.page_record.specs.declared.Page.{Page}
-use Rattle.requests.specs.declared.{Answer.Answer, Verdict.Verdict}
+use Rattle.requests.specs.declared.Answer.{Answer}
+use Rattle.requests.specs.declared.Refusal.{Refusal}
 use Rattle.wire.specs.Answers.{line_of}
 use Rattle.wire.proofs.Lines.{length_line}
 use Rattle.wire.proofs.Buffers.{leaves_past, leaves_long}
@@ -60,7 +62,7 @@ length_lines = length_of line_size length_line
 
 -- ---- the buffer
 -- a run that passes has as many bytes of lines as of requests
-module _ (page : Page) (requests : List ℕ) (space : ℕ) (passed : run_verdict page (length requests) space ≡ Verdict.Passed) where
+module _ (page : Page) (requests : List ℕ) (space : ℕ) (passed : run_verdict page (length requests) space ≡ Ok tt) where
   pub lines_fit : length (lines_of page (requests_of requests)) ≡ length requests
   lines_fit =
       let a = fit passed in
@@ -71,7 +73,7 @@ module _ (page : Page) (requests : List ℕ) (space : ℕ) (passed : run_verdict
 
 -- however it is judged, its length stays, and so do the bytes past the last line
 module _ (page : Page) (requests answers : List ℕ) where
-  abbrev judged : Verdict
+  abbrev judged : Result (Unit {0}) Refusal
   judged = run_verdict page (length requests) (length answers)
 
   pub length_answers : length (answers_of page requests answers) ≡ length answers
@@ -94,7 +96,7 @@ module _ (page : Page) (requests answers : List ℕ) (accepted : (ran_of page re
   -- the page at the end is the one that the last request leaves
   pub page_end : (ran_of page requests answers).page ≡ page_after page (requests_of requests)
   unfolding ran_of
-  page_end = ap (λ (v : Verdict). (ends page requests v).page) (verdict_accepted page requests answers accepted)
+  page_end = ap (λ (v : Result (Unit {0}) Refusal). (ends page requests v).page) (verdict_accepted page requests answers accepted)
 
   -- line k is the answer to request k, from the page that the first k requests left
   pub line_at_lem : (k : ℕ) → k < length requests / line_size

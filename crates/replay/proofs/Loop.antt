@@ -1,13 +1,13 @@
--- The loop of a run. Its invariant says that the whole run, from the first page, is what is done and the run from here: the
--- page at the end is the same, and the buffer is to hold the answers so far, the lines still to come, and what stands past
--- them. A turn computes one request of both. In order: the next request, the invariant and its turn. Assumes nothing.
-use Prim.Native.Nat.{ℕ, suc, ◌+◌, ◌*◌, ◌-◌, ◌<◌, ◌≤◌}
+-- The loop of a run. Its invariant says that the whole run, from the first page, is what is done and the run of the bytes that are
+-- left: the page at the end is the same, and the buffer is to hold the answers so far, the lines still to come, and what stands past
+-- them. A turn takes the first request of those that are left. In order: the first request, the invariant and its turn. Assumes nothing.
+use Prim.Native.Nat.{ℕ, suc, ◌+◌, ◌*◌, ◌-◌, ◌/◌, ◌%◌, ◌<◌, ◌≤◌}
 use mathlib.Core.Path.{◌≡◌, ap, ◌∙◌, sym}
-use mathlib.Core.List.{List, ◌++◌, append-nil}
+use mathlib.Core.List.{List, [], ◌∷◌, ◌++◌, append-nil}
 use native.Mathlib.Omega.{arith}
 use borrow.Rule.Slice.PartMut.{mid_of, put_mid}
-use lib.ListN.{length, take, drop, take-append-drop}
-use lib.Seq.{drop-drop}
+use lib.ListN.{length, take, drop, length-append, take-append-drop}
+use lib.Seq.{take_at, drop_at}
 use Rattle.laws.specs.Lists.{cut}
 use Rattle.laws.proofs.Parts.{part_length, part_turn, part_past}
 use Rattle.kinds.specs.Limits.{line_size}
@@ -18,80 +18,103 @@ use Rattle.wire.specs.Buffers.{put_to}
 use Rattle.wire.proofs.Buffers.{put_part}
 use Rattle.wire.proofs.Lines.{length_line}
 use Rattle.replay.specs.Turns.{turn_of}
-use Rattle.replay.specs.Run.{page_after, lines_of}
+use Rattle.replay.specs.Run.{requests_of, page_after, lines_of}
 
--- ---- the first of the requests still to come
-module _ (w : ℕ) (qs : List ℕ) (at n : ℕ) (page : Page) where
-  abbrev first : Outcome
-  first = turn_of page (take w (drop at qs))
+-- ---- the first request of those that are left
+request_first : (left x rest : List ℕ) → left ≡ x ++ rest → length x ≡ line_size → requests_of left ≡ x ∷ requests_of rest
+request_first left x rest here wide =
+    let n : ℕ = length rest / line_size in
+    let more : length left / line_size ≡ suc n = omega (arith, ap length here, length-append x rest) in
+    ap (λ (m : ℕ). cut line_size m left) more
+    ∙ ap (cut line_size (suc n)) here
+    ∙ (λ i. take_at x rest line_size wide i ∷ cut line_size n (drop_at x rest line_size wide i))
 
-  page_turn : page_after page (cut w (suc n) (drop at qs)) ≡ page_after first.page (cut w n (drop (at + w) qs))
-  page_turn = ap (λ (r : List ℕ). page_after first.page (cut w n r)) (drop-drop w at qs)
+-- where request k begins, and where it ends
+abbrev at : ℕ → ℕ
+at k = line_size * k
 
-  lines_turn : lines_of page (cut w (suc n) (drop at qs))
-      ≡ line_of first.answer ++ lines_of first.page (cut w n (drop (at + w) qs))
-  lines_turn = ap (λ (r : List ℕ). line_of first.answer ++ lines_of first.page (cut w n r)) (drop-drop w at qs)
+abbrev to : ℕ → ℕ
+to k = line_size * (k + 1)
 
 -- ---- the invariant
--- n requests of qs are still to come, from the byte `at` on
-pub record Going (qs old₀ : List ℕ) (page₀ : Page) (n₀ : ℕ) (old : List ℕ) (page : Page) (n at : ℕ) : Type 0 where
-  pub ahead : at + line_size * n ≡ length qs
+-- k requests of qs are answered, and these bytes are left
+pub record Going (qs old₀ : List ℕ) (page₀ : Page) (old : List ℕ) (page : Page) (left : List ℕ) (k : ℕ) : Type 0 where
+  pub ahead : at k + length left ≡ length qs
+  pub whole : length left % line_size ≡ 0
   pub room : length qs ≤ length old
-  pub long : length old ≡ length old₀
-  pub ends : page_after page₀ (cut line_size n₀ qs) ≡ page_after page (cut line_size n (drop at qs))
-  pub says : lines_of page₀ (cut line_size n₀ qs) ++ drop (length qs) old₀
-      ≡ take at old ++ lines_of page (cut line_size n (drop at qs)) ++ drop (length qs) old
+  pub ends : page_after page₀ (requests_of qs) ≡ page_after page (requests_of left)
+  pub says : lines_of page₀ (requests_of qs) ++ drop (length qs) old₀
+      ≡ take (at k) old ++ lines_of page (requests_of left) ++ drop (length qs) old
 
-module _ {qs old₀ : List ℕ} {page₀ : Page} {n₀ : ℕ} {old : List ℕ} {page : Page} {n at : ℕ}
-    (g : Going qs old₀ page₀ n₀ old page n at) where
-  -- a turn: the request's outcome, by the bytes that are read, and its line, put where its answer goes
-  pub going : (o : Outcome) (ys : List ℕ) → 0 < n
-      → o ≡ turn_of page (take (at + line_size - at) (drop at qs))
-      → ys ≡ put_to (line_of o.answer) (mid_of at (at + line_size - at) old)
-      → Going qs old₀ page₀ n₀ (put_mid at (at + line_size - at) old ys) o.page (n - 1) (at + line_size)
-  going o ys more turned written =
-      let next : ℕ = at + line_size in
-      let new : List ℕ = put_mid at (next - at) old ys in
-      let left : List (List ℕ) = cut line_size (n - 1) (drop next qs) in
-      let width : next - at ≡ line_size = omega arith in
-      let one : n ≡ suc (n - 1) = omega arith in
-      let o_is : o ≡ turn_of page (take line_size (drop at qs)) =
-      turned ∙ ap (λ (w : ℕ). turn_of page (take w (drop at qs))) width in
-      let inside : next ≤ length old = omega arith in
-      let ys_is : ys ≡ line_of o.answer = written ∙ put_part (line_of o.answer) old at inside in
-      let wide : length ys ≡ next - at = ap length ys_is ∙ length_line o.answer ∙ sym width in
-      let kept : length new ≡ length old = part_length at next old ys inside wide in
-      let rest : List ℕ = lines_of o.page left in
-      let lines : lines_of page (cut line_size n (drop at qs)) ≡ ys ++ rest =
-      ap (λ (m : ℕ). lines_of page (cut line_size m (drop at qs))) one
-      ∙ lines_turn line_size qs at (n - 1) page
-      ∙ ap (λ (p : Outcome). line_of p.answer ++ lines_of p.page left) (sym o_is)
-      ∙ ap (λ (z : List ℕ). z ++ rest) (sym ys_is) in
-      let past : drop (length qs) new ≡ drop (length qs) old =
-      part_past at next old ys inside wide (omega arith) (length qs) (omega arith) in
-      record {
-        ahead = omega arith;
-        room = omega arith;
-        long = omega arith;
-        ends =
-            g.ends
-            ∙ ap (λ (m : ℕ). page_after page (cut line_size m (drop at qs))) one
-            ∙ page_turn line_size qs at (n - 1) page
-            ∙ ap (λ (p : Outcome). page_after p.page left) (sym o_is);
-        says =
-            g.says
-            ∙ ap (λ (z : List ℕ). take at old ++ z ++ drop (length qs) old) lines
-            ∙ ap (λ (z : List ℕ). z ++ drop (length qs) old) (part_turn at next old ys inside wide (omega arith) rest)
-            ∙ ap (λ (z : List ℕ). take next new ++ rest ++ z) (sym past);
-      }
+-- at first all are left
+pub begins : (qs old : List ℕ) (page : Page) (left : List ℕ) (k : ℕ) → left ≡ qs → k ≡ 0
+    → length qs % line_size ≡ 0 → length qs ≤ length old → Going qs old page old page left k
+begins qs old page left k all none whole room =
+    record {
+      ahead = omega (arith, ap length all);
+      whole = ap (λ (l : List ℕ). length l % line_size) all ∙ whole;
+      room = room;
+      ends = ap (λ (l : List ℕ). page_after page (requests_of l)) (sym all);
+      says = λ i. take (at (sym none i)) old ++ lines_of page (requests_of (sym all i)) ++ drop (length qs) old;
+    }
+
+module _ {qs old₀ : List ℕ} {page₀ : Page} {old : List ℕ} {page : Page} {left : List ℕ} {k : ℕ}
+    (g : Going qs old₀ page₀ old page left k) where
+  -- a turn: the request's outcome, and its line, put where its answer goes
+  module _ (x rest : List ℕ) (i : ℕ) (here : left ≡ x ++ rest) (wide : length x ≡ line_size) (place : i ≡ k) where
+    pub inside : to i ≤ length old
+    inside = omega (arith, ap length here, length-append x rest, g.ahead, g.room)
+
+    pub going : {o : Outcome} {ys : List ℕ} {j : ℕ} → o ≡ turn_of page x
+        → ys ≡ put_to (line_of o.answer) (mid_of (at i) (to i - at i) old) → j ≡ k + 1
+        → Going qs old₀ page₀ (put_mid (at i) (to i - at i) old ys) o.page rest j
+    going {o = o} {ys = ys} {j = j} turned written next =
+        let new : List ℕ = put_mid (at i) (to i - at i) old ys in
+        let stops : to i ≡ at i + line_size = omega arith in
+        let first : requests_of left ≡ x ∷ requests_of rest = request_first left x rest here wide in
+        let ys_is : ys ≡ line_of o.answer =
+        written
+        ∙ ap (λ (n : ℕ). put_to (line_of o.answer) (mid_of (at i) (n - at i) old)) stops
+        ∙ put_part (line_of o.answer) old (at i) (omega (arith, inside)) in
+        let long : length ys ≡ to i - at i = ap length ys_is ∙ length_line o.answer ∙ omega arith in
+        let kept : length new ≡ length old = part_length (at i) (to i) old ys inside long in
+        let after : List ℕ = lines_of o.page (requests_of rest) in
+        let lines : lines_of page (requests_of left) ≡ ys ++ after =
+        ap (lines_of page) first
+        ∙ ap (λ (p : Outcome). line_of p.answer ++ lines_of p.page (requests_of rest)) (sym turned)
+        ∙ ap (λ (z : List ℕ). z ++ after) (sym ys_is) in
+        let bytes : length left ≡ length x + length rest = ap length here ∙ length-append x rest in
+        let past : drop (length qs) new ≡ drop (length qs) old =
+        part_past (at i) (to i) old ys inside long (omega arith) (length qs) (omega (arith, g.ahead)) in
+        let end : to i ≡ at j = omega arith in
+        record {
+          ahead = omega (arith, g.ahead);
+          whole = omega (arith, g.whole);
+          room = omega (arith, g.room);
+          ends =
+              g.ends
+              ∙ ap (page_after page) first
+              ∙ ap (λ (p : Outcome). page_after p.page (requests_of rest)) (sym turned);
+          says =
+              g.says
+              ∙ ap (λ (n : ℕ). take (at n) old ++ lines_of page (requests_of left) ++ drop (length qs) old) (sym place)
+              ∙ ap (λ (z : List ℕ). take (at i) old ++ z ++ drop (length qs) old) lines
+              ∙ ap (λ (z : List ℕ). z ++ drop (length qs) old) (part_turn (at i) (to i) old ys inside long (omega arith) after)
+              ∙ ap (λ (z : List ℕ). take (to i) new ++ after ++ z) (sym past)
+              ∙ ap (λ (n : ℕ). take n new ++ after ++ drop (length qs) new) end;
+        }
 
   -- at the end the page is the last one, and the buffer holds all the answers
-  pub page_gone : n ≡ 0 → page_after page₀ (cut line_size n₀ qs) ≡ page
-  page_gone e = g.ends ∙ ap (λ (m : ℕ). page_after page (cut line_size m (drop at qs))) e
+  module _ (few : length left < line_size) where
+    none_left : requests_of left ≡ []
+    none_left = let e : length left / line_size ≡ 0 = omega arith in ap (λ (n : ℕ). cut line_size n left) e
 
-  pub lines_gone : n ≡ 0 → lines_of page₀ (cut line_size n₀ qs) ++ drop (length qs) old₀ ≡ old
-  lines_gone e =
-      let f : length qs ≡ at = omega arith in
-      g.says
-      ∙ ap (λ (m : ℕ). take at old ++ lines_of page (cut line_size m (drop at qs)) ++ drop (length qs) old) e
-      ∙ rw (append-nil, f) (take-append-drop at old)
+    pub page_gone : page_after page₀ (requests_of qs) ≡ page
+    page_gone = g.ends ∙ ap (page_after page) none_left
+
+    pub lines_gone : lines_of page₀ (requests_of qs) ++ drop (length qs) old₀ ≡ old
+    lines_gone =
+        let all : length qs ≡ at k = omega (arith, g.ahead, g.whole) in
+        g.says
+        ∙ ap (λ (l : List (List ℕ)). take (at k) old ++ lines_of page l ++ drop (length qs) old) none_left
+        ∙ rw (append-nil, all) (take-append-drop (at k) old)

@@ -1,6 +1,7 @@
 -- The requests of a run, and the pages that they leave: each is answered from the page that those before it left, by a step
 -- where its bytes are a request; a refused one leaves it, and a sound page stays sound. In order: one request, the requests, the
 -- pages. Assumes nothing.
+use Rattle.std.specs.Prelude.{Result, Ok, Err}
 use Prim.Native.Nat.{ℕ, suc, ◌/◌, ◌<◌, ◌≤◌}
 use mathlib.Core.Path.{◌≡◌, refl, ap, ◌∙◌}
 use mathlib.Core.List.{List, [], ◌∷◌, ◌++◌}
@@ -15,7 +16,6 @@ use Rattle.soundness.specs.Soundness.{sound_of}
 use Rattle.requests.specs.declared.{Refusal.Refusal, Answer.Answer, Request.Request}
 use Rattle.lock.specs.Step.{refused_by, step_of}
 use Rattle.lock.proofs.Keeps.{step_keeps, refused_keeps_all}
-use Rattle.wire.specs.declared.Reading.{Reading}
 use Rattle.wire.specs.Requests.{read_of}
 use Rattle.replay.specs.Turns.{on_reading, turn_of}
 use Rattle.replay.specs.Run.{requests_of, page_after, line_at, page_at}
@@ -23,11 +23,11 @@ use Rattle.replay.specs.Run.{requests_of, page_after, line_at, page_at}
 -- ---- one request
 -- what the reader accepts is answered by a step, and what it refuses is refused for its reason
 module _ (page : Page) (bytes : List ℕ) where
-  pub turn_read : (q : Request) → read_of bytes ≡ Reading.Request q → turn_of page bytes ≡ step_of page q
+  pub turn_read : (q : Request) → read_of bytes ≡ Ok q → turn_of page bytes ≡ step_of page q
   unfolding turn_of
   turn_read q e = ap (on_reading page) e
 
-  pub turn_refused : (why : Refusal) → read_of bytes ≡ Reading.Refused why → turn_of page bytes ≡ refused_by page why
+  pub turn_refused : (why : Refusal) → read_of bytes ≡ Err why → turn_of page bytes ≡ refused_by page why
   unfolding turn_of
   turn_refused why e = ap (on_reading page) e
 
@@ -36,18 +36,18 @@ module _ (page : Page) (bytes : List ℕ) where
   unfolding turn_of
   refused_turn why = go (read_of bytes)
     where
-      go : (r : Reading) → (on_reading page r).answer ≡ Answer.Refused why → (on_reading page r).page ≡ page
-      go (Reading.Request q) e = refused_keeps_all page q why e
-      go (Reading.Refused other) e = refl
+      go : (r : Result Request Refusal) → (on_reading page r).answer ≡ Answer.Refused why → (on_reading page r).page ≡ page
+      go (Ok q) e = refused_keeps_all page q why e
+      go (Err other) e = refl
 
   -- a sound page stays sound
   pub turn_keeps : T (sound_of page) → T (sound_of (turn_of page bytes).page)
   unfolding turn_of
   turn_keeps sound = go (read_of bytes)
     where
-      go : (r : Reading) → T (sound_of (on_reading page r).page)
-      go (Reading.Request q) = step_keeps page q sound
-      go (Reading.Refused why) = sound
+      go : (r : Result Request Refusal) → T (sound_of (on_reading page r).page)
+      go (Ok q) = step_keeps page q sound
+      go (Err why) = sound
 
 -- ---- the requests
 pub length_requests : (l : List ℕ) → length (requests_of l) ≡ length l / line_size

@@ -1,6 +1,7 @@
 -- What the program writes: the lines of a run from a fresh page of value 0, or one line where the input is refused as a
 -- whole; it lies within the buffer, and the bytes past it stay. In order: what each return of `reply` needs, one line, the
 -- buffer, what is written out. Assumes nothing.
+use Rattle.std.specs.Prelude.{Result, Ok, Err}
 use Prim.Native.Nat.{ℕ, ◌<◌, ◌≤◌}
 use mathlib.Core.Path.{◌≡◌, refl, ap, ◌∙◌, sym}
 use mathlib.Core.Bool.{Bool, true, false, cond}
@@ -15,7 +16,7 @@ use lib.Seq.{drop_at, take_at}
 use Rattle.kinds.specs.Limits.{line_size}
 use Rattle.page_record.specs.declared.Page.{Page}
 use Rattle.page_record.specs.Pages.{fresh_page}
-use Rattle.requests.specs.declared.{Refusal.Refusal, Answer.Answer, Verdict.Verdict}
+use Rattle.requests.specs.declared.{Refusal.Refusal, Answer.Answer}
 use Rattle.requests.specs.contracts.Answer as A
 use Rattle.lock.specs.declared.Outcome.{Outcome}
 use Rattle.wire.specs.Answers.{line_of}
@@ -30,19 +31,19 @@ use Rattle.replay.proofs.Whole.{accepted_has, refused_untouched}
 
 -- ---- the returns of `reply`
 -- a run that is not refused passed
-not_refused : (page : Page) (requests : List ℕ) (v : Verdict)
-    → OneOf (0 ∷ 1 ∷ []) (tag_of A.the_type (ends page requests v).answer) → v ≡ Verdict.Passed
-not_refused page requests Verdict.Passed k = refl
-not_refused page requests (Verdict.Failed why) k = absurd (miss (0 ∷ 1 ∷ []) 2 tt k)
+not_refused : (page : Page) (requests : List ℕ) (v : Result (Unit {0}) Refusal)
+    → OneOf (0 ∷ 1 ∷ []) (tag_of A.the_type (ends page requests v).answer) → v ≡ Ok tt
+not_refused page requests (Ok _) k = refl
+not_refused page requests (Err why) k = absurd (miss (0 ∷ 1 ∷ []) 2 tt k)
 
 module _ (kept out : List ℕ) (total : ℕ) where
   -- what is replied, by what the input as a whole comes to
-  pub replies : (v : Verdict) → input_verdict kept total (length out) ≡ v
+  pub replies : (v : Result (Unit {0}) Refusal) → input_verdict kept total (length out) ≡ v
       → (length_for kept out v ≡ reply_length kept total out) × (bytes_for kept out v ≡ reply_bytes kept total out)
   unfolding reply_length reply_bytes
   replies v e = (ap (length_for kept out) (sym e), ap (bytes_for kept out) (sym e))
 
-  pub input_long : longest < total → input_verdict kept total (length out) ≡ Verdict.Failed (too_long total)
+  pub input_long : longest < total → input_verdict kept total (length out) ≡ Err (too_long total)
   unfolding input_verdict
   input_long h = simp (lt-ltb _ _ h)
 
@@ -55,7 +56,7 @@ module _ (kept out : List ℕ) (total : ℕ) where
       → r ≡ refusal_length out → zs ≡ refusal_bytes why out
       → (r ≡ reply_length kept total out) × (zs ≡ reply_bytes kept total out)
   reply_long why r zs h w e f =
-      let t = replies (Verdict.Failed (too_long total)) (input_long h) in
+      let t = replies (Err (too_long total)) (input_long h) in
       (e ∙ t.0, f ∙ ap (λ (x : Refusal). refusal_bytes x out) w ∙ t.1)
 
   module _ (page : Page) (ran : Outcome) (ys : List ℕ) (short : total ≤ longest) (fresh : page ≡ fresh_page 0)
@@ -70,7 +71,7 @@ module _ (kept out : List ℕ) (total : ℕ) where
     unfolding ran_of
     reply_ran k =
         let v = not_refused page kept (run_verdict page (length kept) (length out)) (rw end at k) in
-        let t = replies Verdict.Passed (judged_so ∙ v) in
+        let t = replies (Ok tt) (judged_so ∙ v) in
         (t.0, lines ∙ ap (λ (p : Page). answers_of p kept out) fresh ∙ t.1)
 
     -- the run is refused as a whole
@@ -81,7 +82,7 @@ module _ (kept out : List ℕ) (total : ℕ) where
         let u : (ran_of page kept out).answer ≡ Answer.Refused why = rw end at w in
         let v = verdict_refused page kept out why u in
         let same : ys ≡ out = lines ∙ (refused_untouched page kept out why u).1 in
-        let t = replies (Verdict.Failed why) (judged_so ∙ v) in
+        let t = replies (Err why) (judged_so ∙ v) in
         (e ∙ ap refusal_length same ∙ t.0, f ∙ ap (refusal_bytes why) same ∙ t.1)
 
 -- ---- one line for the whole input
@@ -118,33 +119,33 @@ refusal_within why out false e =
     record { fits = omega arith; long = ap length f.1; past = ap (drop (refusal_length out)) f.1 }
 
 -- an input that passes is run
-runs : (long : Bool) (why : Refusal) (v : Verdict) → cond long (Verdict.Failed why) v ≡ Verdict.Passed → v ≡ Verdict.Passed
+runs : (long : Bool) (why : Refusal) (v : Result (Unit {0}) Refusal) → cond long (Err why) v ≡ Ok tt → v ≡ Ok tt
 runs true why v e = absurd (let z : ◌≡◌ {A = ℕ} 0 1 = cc in omega arith)
 runs false why v e = e
 
 module _ (kept out : List ℕ) (total : ℕ) where
-  input_runs : input_verdict kept total (length out) ≡ Verdict.Passed → (ran_of (fresh_page 0) kept out).answer ≡ Answer.Accepted
+  input_runs : input_verdict kept total (length out) ≡ Ok tt → (ran_of (fresh_page 0) kept out).answer ≡ Answer.Accepted
   unfolding input_verdict ran_of
   input_runs e =
       let run = run_verdict (fresh_page 0) (length kept) (length out) in
-      ap (λ (v : Verdict). (ends (fresh_page 0) kept v).answer) (runs (ltb longest total) (too_long total) run e)
+      ap (λ (v : Result (Unit {0}) Refusal). (ends (fresh_page 0) kept v).answer) (runs (ltb longest total) (too_long total) run e)
 
-  within : (v : Verdict) → input_verdict kept total (length out) ≡ v → Within (length_for kept out v) (bytes_for kept out v) out
-  within Verdict.Passed e =
+  within : (v : Result (Unit {0}) Refusal) → input_verdict kept total (length out) ≡ v → Within (length_for kept out v) (bytes_for kept out v) out
+  within (Ok _) e =
       let a = input_runs e in
       let h = requests_fit (fresh_page 0) kept (length out) (verdict_accepted (fresh_page 0) kept out a) in
       let l = length_answers (fresh_page 0) kept out in
       record { fits = omega arith; long = l; past = past_lines (fresh_page 0) kept out }
-  within (Verdict.Failed why) e = refusal_within why out (leb line_size (length out)) refl
+  within (Err why) e = refusal_within why out (leb line_size (length out)) refl
 
   pub reply_within : Within (reply_length kept total out) (reply_bytes kept total out) out
   unfolding reply_length reply_bytes
   reply_within = within (input_verdict kept total (length out)) refl
 
   -- under sixteen bytes nothing fits, and the buffer stays as it was
-  small : length out < line_size → (v : Verdict) → input_verdict kept total (length out) ≡ v → length_for kept out v ≡ 0
-  small h Verdict.Passed e = let a = accepted_has (fresh_page 0) kept out (input_runs e) in omega arith
-  small h (Verdict.Failed why) e = (refusal_short why out h).0
+  small : length out < line_size → (v : Result (Unit {0}) Refusal) → input_verdict kept total (length out) ≡ v → length_for kept out v ≡ 0
+  small h (Ok _) e = let a = accepted_has (fresh_page 0) kept out (input_runs e) in omega arith
+  small h (Err why) e = (refusal_short why out h).0
 
   pub reply_small : length out < line_size → (reply_length kept total out ≡ 0) × (reply_bytes kept total out ≡ out)
   unfolding reply_length
@@ -160,16 +161,16 @@ module _ (kept out : List ℕ) (total : ℕ) where
       → written kept total out ≡ lines_of (fresh_page 0) (requests_of kept)
   writes_lines h a =
       let v = verdict_accepted (fresh_page 0) kept out a in
-      let t = replies kept out total Verdict.Passed (input_kept kept out total h ∙ v) in
+      let t = replies kept out total (Ok tt) (input_kept kept out total h ∙ v) in
       let lines = lines_of (fresh_page 0) (requests_of kept) in
       let fit = lines_fit (fresh_page 0) kept (length out) v in
       rw (← t.0, ← t.1, answers_are (fresh_page 0) kept out a) (take_at lines (drop (length kept) out) (length kept) fit)
 
   -- one line for an input that is refused as a whole
-  writes_one : (why : Refusal) → input_verdict kept total (length out) ≡ Verdict.Failed why → line_size ≤ length out
+  writes_one : (why : Refusal) → input_verdict kept total (length out) ≡ Err why → line_size ≤ length out
       → written kept total out ≡ line_of (Answer.Refused why)
   writes_one why e h =
-      let t = replies kept out total (Verdict.Failed why) e in
+      let t = replies kept out total (Err why) e in
       let f = refusal_fits why out h in
       let answer = Answer.Refused why in
       rw (← t.0, ← t.1, f.0, f.1) (take_at (line_of answer) (drop line_size out) line_size (length_line answer))

@@ -1,11 +1,11 @@
 -- A run: each request is answered from the page that those before it left, and each has its line of the answers. A run that
 -- is refused as a whole touches neither the page nor the answer buffer.
-use Rattle.std.specs.Prelude.{ℕ, ◌*◌, ◌/◌, ◌%◌, Bool, List, [], ◌∷◌, ◌++◌, eqb, leb, length, take, drop}
+use Rattle.std.specs.Prelude.{ℕ, Result, Ok, Err, ◌*◌, ◌/◌, ◌%◌, Bool, List, [], ◌∷◌, ◌++◌, eqb, leb, length, take, drop}
 use Rattle.laws.specs.Lists.{cut}
 use Rattle.kinds.specs.Limits.{line_size, most_requests}
 use Rattle.page_record.specs.declared.Page.{Page}
 use Rattle.soundness.specs.Soundness.{sound_of}
-use Rattle.requests.specs.declared.{Refusal.Refusal, Answer.Answer, Verdict.Verdict}
+use Rattle.requests.specs.declared.{Refusal.Refusal, Answer.Answer}
 use Rattle.requests.specs.Premises.{verdict}
 use Rattle.lock.specs.declared.Outcome.{Outcome}
 use Rattle.lock.specs.Step.{refused_by}
@@ -48,20 +48,20 @@ whole_premises sound bytes space =
     ∷ (Refusal.NoRoom, leb (line_size * (bytes / line_size)) space)
     ∷ []
 
-unfoldable pub run_verdict : Page → ℕ → ℕ → Verdict
+unfoldable pub run_verdict : Page → ℕ → ℕ → Result (Unit {0}) Refusal
 run_verdict page bytes space = verdict (whole_premises (sound_of page) bytes space)
 
 -- ---- what the run answers
 -- accepted, and the page after all requests; a refusal leaves the page
-abbrev pub ends : Page → List ℕ → Verdict → Outcome
-ends page requests Verdict.Passed = record { answer = Answer.Accepted; page = page_after page (requests_of requests) }
-ends page requests (Verdict.Failed why) = refused_by page why
+abbrev pub ends : Page → List ℕ → Result (Unit {0}) Refusal → Outcome
+ends page requests (Ok _) = record { answer = Answer.Accepted; page = page_after page (requests_of requests) }
+ends page requests (Err why) = refused_by page why
 
 unfoldable pub ran_of : Page → List ℕ → List ℕ → Outcome
 ran_of page requests answers = ends page requests (run_verdict page (length requests) (length answers))
 
 -- the lines, as many bytes as the requests have, and what stood past them; a refusal leaves the buffer
-abbrev pub fills : Page → List ℕ → List ℕ → Verdict → List ℕ
+abbrev pub fills : Page → List ℕ → List ℕ → Result (Unit {0}) Refusal → List ℕ
 fills page requests answers v = leaves (length requests) v (lines_of page (requests_of requests)) answers
 
 unfoldable pub answers_of : Page → List ℕ → List ℕ → List ℕ

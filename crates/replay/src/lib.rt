@@ -9,8 +9,7 @@ ghost use Rattle.replay.specs.Turns.{turn_of};
 use kinds::{LINE, MOST_REQUESTS};
 use lock::Outcome;
 use page_record::Page;
-use requests::{Answer, Refusal, Verdict};
-use wire::Reading;
+use requests::{Answer, Refusal};
 
 // The most bytes that a run takes.
 pub const LONGEST: usize = LINE * MOST_REQUESTS;
@@ -21,64 +20,51 @@ fn turn(page: Page, bytes: &[u8]) -> Outcome
     ensures { result ≡ turn_of page bytes.now }
 {
     match wire::read(bytes) {
-        Reading::Request(request) => lock::step(page, request),
-        Reading::Refused(why) => {
-            let answer = Answer::Refused(why);
-            Outcome { answer, page }
-        }
+        Ok(request) => lock::step(page, request),
+        Err(why) => lock::refuse(page, why),
     }
 }
 
 // Numbers 1, 12, 13 and 14: what is asked of a run of so many bytes, with so much space for its answers.
 #[tactic(auto, unfolding(crate::specs::Run::run_verdict))]
-fn judge_run(page: Page, bytes: usize, space: usize) -> Verdict
+fn judge_run(page: Page, bytes: usize, space: usize) -> Result<(), Refusal>
     ensures { result ≡ run_verdict page bytes space }
 {
-    let requests = bytes / LINE;
-    let needed = LINE * requests;
     if !soundness::is_sound(page) {
-        return Verdict::Failed(Refusal::Unsound);
+        return Err(Refusal::Unsound);
     }
     if bytes % LINE != 0 {
-        return Verdict::Failed(Refusal::NotWhole);
+        return Err(Refusal::NotWhole);
     }
+    let requests = bytes / LINE;
     if MOST_REQUESTS < requests {
-        return Verdict::Failed(Refusal::TooMany);
+        return Err(Refusal::TooMany);
     }
-    if space < needed {
-        return Verdict::Failed(Refusal::NoRoom);
+    if space < LINE * requests {
+        return Err(Refusal::NoRoom);
     }
-    Verdict::Passed
+    Ok(())
 }
 
 // Each request is answered from the page that those before it left, whether they were granted or not. A run that is refused
 // as a whole touches neither the page nor the answers; otherwise the bytes past the last answer stay.
 #[tactic(auto, unfolding(crate::specs::Run::ran_of, crate::specs::Run::answers_of))]
-pub fn run(page: Page, requests: &[u8], answers: &mut [u8]) -> Outcome
+pub fn run(mut page: Page, requests: &[u8], answers: &mut [u8]) -> Outcome
     ensures end { result ≡ ran_of page requests.now answers.old }
     ensures lines { answers.new ≡ answers_of page requests.now answers.old }
 {
-    let verdict = judge_run(page, requests.len(), answers.len());
-    if let Verdict::Failed(why) = verdict {
-        let answer = Answer::Refused(why);
-        return Outcome { answer, page };
+    if let Err(why) = judge_run(page, requests.len(), answers.len()) {
+        return lock::refuse(page, why);
     }
-    let mut current = page;
-    let mut left = requests.len() / LINE;
-    let mut at: usize = 0;
-    while 0 < left {
-        let next = at + LINE;
-        let turned = turn(current, &requests[at..next]);
-        let answer = turned.answer;
-        wire::write_answer(answer, &mut answers[at..next]);
-        current = turned.page;
-        at = next;
-        left -= 1;
+    // Not by `answers.chunks_exact_mut`: std says nothing of what the buffer holds after it, so `lines` would not be proved.
+    for (i, request) in requests.chunks_exact(LINE).enumerate() {
+        let turned = turn(page, request);
+        wire::write_answer(turned.answer, &mut answers[LINE * i..LINE * (i + 1)]);
+        page = turned.page;
     }
-    let answer = Answer::Accepted;
     Outcome {
-        answer,
-        page: current,
+        answer: Answer::Accepted,
+        page,
     }
 }
 
@@ -100,8 +86,7 @@ fn refuse(why: Refusal, out: &mut [u8]) -> usize
     if out.len() < LINE {
         return 0;
     }
-    let answer = Answer::Refused(why);
-    wire::write_answer(answer, out);
+    wire::write_answer(Answer::Refused(why), out);
     LINE
 }
 
@@ -113,14 +98,10 @@ pub fn reply(kept: &[u8], total: usize, out: &mut [u8]) -> usize
     ensures bytes { out.new ≡ reply_bytes kept.now total out.old }
 {
     if LONGEST < total {
-        let why = too_long(total);
+        return refuse(too_long(total), out);
+    }
+    if let Answer::Refused(why) = run(page_record::fresh(0), kept, out).answer {
         return refuse(why, out);
     }
-    let page = page_record::fresh(0);
-    let ran = run(page, kept, out);
-    let answer = ran.answer;
-    let Answer::Refused(why) = answer else {
-        return kept.len();
-    };
-    refuse(why, out)
+    kept.len()
 }

@@ -1,5 +1,6 @@
 -- A request that is judged well formed has a step of at most the last, a bucket from 0 to 3 and a clean of 0 or 1, whether its step
 -- takes them or not (`formed`). Assumes nothing.
+use Rattle.std.specs.Prelude.{Ok}
 use Prim.Native.Nat.{ℕ, ◌<◌, ◌≤◌}
 use mathlib.Core.Path.{◌≡◌}
 use mathlib.Core.Bool.{Bool, true, false, not, cond, ◌&&◌, ◌||◌}
@@ -7,7 +8,7 @@ use native.Mathlib.Omega.{arith}
 use lib.Dec.{T, eqb, ltb, leb, eqb→eq, leb→le, ltb→lt}
 use Rattle.laws.proofs.Tests.{halves}
 use Rattle.kinds.specs.Limits.{buckets}
-use Rattle.requests.specs.declared.{Verdict.Verdict, Request.Request}
+use Rattle.requests.specs.declared.Request.{Request}
 use Rattle.requests.specs.Requests.{last_step, past_last, is_step, takes_bucket, takes_clean, takes_value, formal}
 use Rattle.requests.specs.Requests.{judged}
 use Rattle.requests.proofs.Verdicts.{passed}
@@ -25,7 +26,7 @@ pub record Formed (q : Request) : Type 0 where
   pub bucket : q.bucket.0 < buckets
   pub clean : q.clean ≤ 1
 
-pub formed : (q : Request) → judged q ≡ Verdict.Passed → Formed q
+pub formed : (q : Request) → judged q ≡ Ok tt → Formed q
 unfolding judged
 formed q e =
     let p = passed (formal q) e in

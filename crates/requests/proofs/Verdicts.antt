@@ -1,6 +1,7 @@
 -- What a list of premises comes to, by one induction each: where none fails, all hold (`passed`), and where one fails they can't
 -- all hold (`fails_not`); two lists are judged one after the other (`verdict_append`); and the verdict's number is the first, in
 -- the table of the premises' numbers, that applies (`verdict_number_lem`). Assumes nothing.
+use Rattle.std.specs.Prelude.{Result, Ok, Err}
 use Prim.Native.Nat.{ℕ}
 use mathlib.Core.Path.{◌≡◌, refl}
 use mathlib.Core.Bool.{Bool, true, false, not, ◌||◌}
@@ -8,15 +9,15 @@ use mathlib.Core.List.{List, [], ◌∷◌, ◌++◌}
 use native.Mathlib.Omega.{arith}
 use lib.Dec.{T}
 use Rattle.laws.specs.Tables.{first_applying}
-use Rattle.requests.specs.declared.{Refusal.Refusal, Verdict.Verdict}
+use Rattle.requests.specs.declared.Refusal.{Refusal}
 use Rattle.requests.specs.Answers.{refusal_number, verdict_number}
 use Rattle.requests.specs.Premises.{verdict, Passes}
 
 -- ---- all hold
-pub never : (why : Refusal) → Verdict.Failed why ≡ Verdict.Passed → ⊥
+pub never : (why : Refusal) → ◌≡◌ {A = Result (Unit {0}) Refusal} (Err why) (Ok tt) → ⊥
 never why e = let z : ◌≡◌ {A = ℕ} 0 1 = cc in omega arith
 
-pub passed : (cs : List (Refusal × Bool)) → verdict cs ≡ Verdict.Passed → Passes cs
+pub passed : (cs : List (Refusal × Bool)) → verdict cs ≡ Ok tt → Passes cs
 passed [] e = tt
 passed ((why, true) ∷ cs) e = (tt, passed cs e)
 passed ((why, false) ∷ cs) e = absurd (never why e)
@@ -32,9 +33,9 @@ fails_not ((why, true) ∷ cs) t p = fails_not cs t p.1
 fails_not ((why, false) ∷ cs) t p = p.0
 
 -- ---- one list after another
-abbrev pub and_then : Verdict → Verdict → Verdict
-and_then Verdict.Passed v = v
-and_then (Verdict.Failed why) v = Verdict.Failed why
+abbrev pub and_then : Result (Unit {0}) Refusal → Result (Unit {0}) Refusal → Result (Unit {0}) Refusal
+and_then (Ok _) v = v
+and_then (Err why) v = Err why
 
 pub verdict_append : (xs ys : List (Refusal × Bool)) → verdict (xs ++ ys) ≡ and_then (verdict xs) (verdict ys)
 verdict_append [] ys = refl

@@ -1,6 +1,6 @@
 -- The number of each reason, verdict and answer (RULES 4.1), and the value that an answer carries.
-use Rattle.std.specs.Prelude.{ℕ, Bool, true, false}
-use Rattle.requests.specs.declared.{Refusal.Refusal, Answer.Answer, Verdict.Verdict}
+use Rattle.std.specs.Prelude.{ℕ, Result, Ok, Err, Bool, true, false}
+use Rattle.requests.specs.declared.{Refusal.Refusal, Answer.Answer}
 
 abbrev pub refusal_number : Refusal → ℕ
 refusal_number Refusal.Unsound = 1
@@ -22,9 +22,9 @@ refusal_number Refusal.NotAnImage = 16
 refusal_number Refusal.OtherValue = 17
 
 -- 0 where all that is asked holds
-abbrev pub verdict_number : Verdict → ℕ
-verdict_number Verdict.Passed = 0
-verdict_number (Verdict.Failed why) = refusal_number why
+abbrev pub verdict_number : Result (Unit {0}) Refusal → ℕ
+verdict_number (Ok _) = 0
+verdict_number (Err why) = refusal_number why
 
 -- 0 where it is accepted
 abbrev pub answer_number : Answer → ℕ

@@ -1,12 +1,12 @@
 -- Premises: a list of tests, each with the reason that is given where it fails. They stand in the order of their numbers, so the
 -- first that fails gives the lowest number that applies.
-use Rattle.std.specs.Prelude.{Bool, cond, List, [], ◌∷◌, T}
-use Rattle.requests.specs.declared.{Refusal.Refusal, Verdict.Verdict}
+use Rattle.std.specs.Prelude.{Bool, Result, Ok, Err, cond, List, [], ◌∷◌, T}
+use Rattle.requests.specs.declared.Refusal.{Refusal}
 
 -- the first premise that fails
-abbrev pub verdict : List (Refusal × Bool) → Verdict
-verdict [] = Verdict.Passed
-verdict (c ∷ cs) = cond c.1 (verdict cs) (Verdict.Failed c.0)
+abbrev pub verdict : List (Refusal × Bool) → Result (Unit {0}) Refusal
+verdict [] = (Ok tt)
+verdict (c ∷ cs) = cond c.1 (verdict cs) (Err c.0)
 
 -- all premises hold
 abbrev pub Passes : List (Refusal × Bool) → Type 0

@@ -1,7 +1,7 @@
 -- Which fields each step takes (RULES 3.2), and what is asked of a request whatever the record is: numbers 2 to 4.
-use Rattle.std.specs.Prelude.{ℕ, ◌+◌, Bool, cond, ◌&&◌, ◌||◌, not, List, [], ◌∷◌, eqb, ltb, leb}
+use Rattle.std.specs.Prelude.{ℕ, Result, ◌+◌, Bool, cond, ◌&&◌, ◌||◌, not, List, [], ◌∷◌, eqb, ltb, leb}
 use Rattle.kinds.specs.Limits.{buckets}
-use Rattle.requests.specs.declared.{Refusal.Refusal, Request.Request, Verdict.Verdict}
+use Rattle.requests.specs.declared.{Refusal.Refusal, Request.Request}
 use Rattle.requests.specs.Premises.{verdict}
 
 -- the highest step number
@@ -43,5 +43,5 @@ abbrev pub formal : Request → List (Refusal × Bool)
 formal q =
     (Refusal.UnknownStep, is_step q.step) ∷ (Refusal.BadField, fields_fit q) ∷ (Refusal.BadBucket, bucket_fits q) ∷ []
 
-unfoldable pub judged : Request → Verdict
+unfoldable pub judged : Request → Result (Unit {0}) Refusal
 judged q = verdict (formal q)

@@ -7,25 +7,7 @@ use crate::{Answer, Refusal};
 pub fn refusal_number(why: Refusal) -> u8
     ensures { result ≡ refusal_number why }
 {
-    match why {
-        Refusal::Unsound => 1,
-        Refusal::UnknownStep => 2,
-        Refusal::BadField => 3,
-        Refusal::BadBucket => 4,
-        Refusal::WrongFlag => 5,
-        Refusal::NoHolder => 6,
-        Refusal::WrongBucket => 7,
-        Refusal::WrongVisited => 8,
-        Refusal::OtherCount => 9,
-        Refusal::AtCeiling => 10,
-        Refusal::ListFull => 11,
-        Refusal::NotWhole => 12,
-        Refusal::TooMany => 13,
-        Refusal::NoRoom => 14,
-        Refusal::WrongSize => 15,
-        Refusal::NotAnImage => 16,
-        Refusal::OtherValue => 17,
-    }
+    why as u8
 }
 
 // 0 where it is accepted.
@@ -33,8 +15,7 @@ pub fn answer_number(answer: Answer) -> u8
     ensures { result ≡ answer_number answer }
 {
     match answer {
-        Answer::Accepted => 0,
-        Answer::Withdrew(_) => 0,
+        Answer::Accepted | Answer::Withdrew(_) => 0,
         Answer::Refused(why) => refusal_number(why),
     }
 }
@@ -43,11 +24,7 @@ pub fn answer_number(answer: Answer) -> u8
 pub fn carries(answer: Answer) -> bool
     ensures { result ≡ withdraws answer }
 {
-    match answer {
-        Answer::Accepted => false,
-        Answer::Withdrew(_) => true,
-        Answer::Refused(_) => false,
-    }
+    matches!(answer, Answer::Withdrew(_))
 }
 
 // The value that was withdrawn, or 0.
@@ -55,8 +32,7 @@ pub fn answer_value(answer: Answer) -> u64
     ensures { result ≡ answer_value answer }
 {
     match answer {
-        Answer::Accepted => 0,
         Answer::Withdrew(value) => value,
-        Answer::Refused(_) => 0,
+        Answer::Accepted | Answer::Refused(_) => 0,
     }
 }

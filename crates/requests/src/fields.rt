@@ -12,56 +12,35 @@ const LAST_STEP: u8 = 30;
 pub fn is_step(n: u8) -> bool
     ensures { result ≡ is_step n }
 {
-    (1 <= n) & (n <= LAST_STEP)
+    (1..=LAST_STEP).contains(&n)
 }
 
 // 4, 13 and 18 to 24 take a bucket.
 fn takes_bucket(n: u8) -> bool
     ensures { result ≡ takes_bucket n }
 {
-    match n {
-        4 => true,
-        13 => true,
-        18..=24 => true,
-        _ => false,
-    }
+    matches!(n, 4 | 13 | 18..=24)
 }
 
 // 4, 9, 10, 16, 17, 22, 29 and 30 take a value.
 fn takes_value(n: u8) -> bool
     ensures { result ≡ takes_value n }
 {
-    match n {
-        4 => true,
-        9 => true,
-        10 => true,
-        16 => true,
-        17 => true,
-        22 => true,
-        29 => true,
-        30 => true,
-        _ => false,
-    }
+    matches!(n, 4 | 9 | 10 | 16 | 17 | 22 | 29 | 30)
 }
 
 // A field that the step doesn't take is zero, and clean, which 6 alone takes, is at most 1.
 pub fn fields_fit(request: Request) -> bool
     ensures { result ≡ fields_fit request }
 {
-    let step = request.step;
-    let bucket = request.bucket;
-    let clean = request.clean;
-    let value = request.value;
-    (takes_bucket(step) | (bucket.0 == 0))
-        & (clean <= (step == 6) as u8)
-        & (takes_value(step) | (value == 0))
+    (takes_bucket(request.step) || request.bucket.0 == 0)
+        && request.clean <= u8::from(request.step == 6)
+        && (takes_value(request.step) || request.value == 0)
 }
 
 // A bucket that is taken is 0 to 3.
 pub fn bucket_fits(request: Request) -> bool
     ensures { result ≡ bucket_fits request }
 {
-    let step = request.step;
-    let bucket = request.bucket;
-    !takes_bucket(step) | (bucket.0 < BUCKETS)
+    !takes_bucket(request.step) || request.bucket.0 < BUCKETS
 }

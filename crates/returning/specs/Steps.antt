@@ -1,8 +1,8 @@
 -- The transitions by which a holder gives back what it has, steps 25 to 30 (RULES 3.2), on the head. The source has none of them; they
 -- are written as its own are. Each lists its premises in the order of their numbers (RULES 4.1), and then what it leaves. Whether the
 -- list of readers is full is given to 26; what it does to the list is its edit.
-use Rattle.std.specs.Prelude.{Bool, not, [], ◌∷◌}
-use Rattle.kinds.specs.declared.{Flag.Flag, Storage.Storage, Phase.Phase, ExcState.ExcState}
+use Rattle.std.specs.Prelude.{Bool, not, Some, [], ◌∷◌}
+use Rattle.kinds.specs.declared.{Flag.Flag, Phase.Phase, ExcState.ExcState}
 use Rattle.kinds.specs.Flags.{unclaimed, unawaited}
 use Rattle.page_record.specs.declared.Head.{Head}
 use Rattle.page_record.specs.Holders.{has_bucket, bucket_of, is_claim, is_await, is_pending, is_editing, exc_bucket, exc_clean}
@@ -52,7 +52,7 @@ abbrev pub deposit_to : Head → Request → Flag → Step
 deposit_to h q flag =
     let e = h.exc_state in
     accepts ((Refusal.NoHolder, is_editing e) ∷ (Refusal.OtherValue, may_put_in (exc_clean e) (exc_value e) q.value) ∷ [])
-    (lowered_if (exc_bucket e) (with_flag flag (with_storage (Storage.In q.value) (with_exc ExcState.None h))))
+    (lowered_if (exc_bucket e) (with_flag flag (with_storage (Some q.value) (with_exc ExcState.None h))))
     Edit.Keep
 
 -- 29

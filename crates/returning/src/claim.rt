@@ -5,7 +5,7 @@ ghost use Rattle.heads.specs.Decisions.{decided};
 ghost use Rattle.returning.specs.Steps.{discard_claim, claim_to_shared, pending_to_claim};
 
 use heads::{Decision, Edit, leave_exc, lower_if, refuse};
-use kinds::{ExcState, MaybeBucket, Phase, Reader, unawaited, unclaimed};
+use kinds::{ExcState, Phase, Reader, unawaited, unclaimed};
 use page_record::Head;
 use requests::Refusal;
 
@@ -13,14 +13,12 @@ use requests::Refusal;
 pub fn discard_claim(h: Head) -> Decision
     ensures { result ≡ decided h (discard_claim h) }
 {
-    let flag = h.flag;
-    let exc = h.exc_state;
-    let ExcState::Claim { bucket, value: _ } = exc else {
+    let ExcState::Claim { bucket, .. } = h.exc_state else {
         return refuse(h, Refusal::NoHolder);
     };
     leave_exc(
         lower_if(h, bucket),
-        unclaimed(flag),
+        unclaimed(h.flag),
         ExcState::None,
         Edit::Keep,
     )
@@ -30,12 +28,10 @@ pub fn discard_claim(h: Head) -> Decision
 pub fn claim_to_shared(h: Head, full: bool) -> Decision
     ensures { result ≡ decided h (claim_to_shared h full) }
 {
-    let flag = h.flag;
-    let exc = h.exc_state;
-    let ExcState::Claim { bucket, value } = exc else {
+    let ExcState::Claim { bucket, value } = h.exc_state else {
         return refuse(h, Refusal::NoHolder);
     };
-    let MaybeBucket::At(own) = bucket else {
+    let Some(own) = bucket else {
         return refuse(h, Refusal::WrongBucket);
     };
     if full {
@@ -45,18 +41,16 @@ pub fn claim_to_shared(h: Head, full: bool) -> Decision
         phase: Phase::Obtained(value),
         bucket: own,
     };
-    leave_exc(h, unclaimed(flag), ExcState::None, Edit::Push(reader))
+    leave_exc(h, unclaimed(h.flag), ExcState::None, Edit::Push(reader))
 }
 
 // 27: one that waits for the archive goes back to its claim.
 pub fn pending_to_claim(h: Head) -> Decision
     ensures { result ≡ decided h (pending_to_claim h) }
 {
-    let flag = h.flag;
-    let exc = h.exc_state;
-    let ExcState::PendingAwaitWriteback { bucket, value } = exc else {
+    let ExcState::PendingAwaitWriteback { bucket, value } = h.exc_state else {
         return refuse(h, Refusal::NoHolder);
     };
     let claim = ExcState::Claim { bucket, value };
-    leave_exc(h, unawaited(flag), claim, Edit::Keep)
+    leave_exc(h, unawaited(h.flag), claim, Edit::Keep)
 }

@@ -15,14 +15,7 @@ use requests::{Refusal, Request};
 pub fn cancel_exc_lock_to_claim(h: Head) -> Decision
     ensures { result ≡ decided h (cancel_exc_lock_to_claim h) }
 {
-    let exc = h.exc_state;
-    let ExcState::Pending {
-        bucket,
-        visited_count: _,
-        clean: _,
-        value,
-    } = exc
-    else {
+    let ExcState::Pending { bucket, value, .. } = h.exc_state else {
         return refuse(h, Refusal::NoHolder);
     };
     let claim = ExcState::Claim { bucket, value };
@@ -33,20 +26,24 @@ pub fn cancel_exc_lock_to_claim(h: Head) -> Decision
 fn deposit_to(h: Head, q: Request, flag: Flag) -> Decision
     ensures { result ≡ decided h (deposit_to h q flag) }
 {
-    let exc = h.exc_state;
-    let value = q.value;
     let ExcState::Obtained {
         bucket,
         clean,
         value: kept,
-    } = exc
+    } = h.exc_state
     else {
         return refuse(h, Refusal::NoHolder);
     };
-    if !may_put_in(clean, kept, value) {
+    if !may_put_in(clean, kept, q.value) {
         return refuse(h, Refusal::OtherValue);
     }
-    deposit_exc(lower_if(h, bucket), value, flag, ExcState::None, Edit::Keep)
+    deposit_exc(
+        lower_if(h, bucket),
+        q.value,
+        flag,
+        ExcState::None,
+        Edit::Keep,
+    )
 }
 
 // 29: the page is available.

@@ -1,10 +1,10 @@
 -- The eight rules of a sound record (RULES 2): 1 to 7 clause for clause as in the source, and rule 8, the limits. Each rule takes
 -- the parts that it reads, so that a step which leaves these alone keeps the rule for nothing.
-use Rattle.std.specs.Prelude.{ℕ, Bool, true, false, not, ◌&&◌, ◌||◌, List, [], ◌∷◌, eqb, ltb, leb, length}
+use Rattle.std.specs.Prelude.{ℕ, Option, Some, None, Bool, true, false, not, ◌&&◌, ◌||◌, List, [], ◌∷◌, eqb, ltb, leb, length}
 use Rattle.std.specs.Bool.{beq}
 use Rattle.laws.specs.Lists.{every}
-use Rattle.kinds.specs.declared.{Count.Count, Flag.Flag, Storage.Storage, Phase.Phase, Reader.Reader, ExcState.ExcState}
-use Rattle.kinds.specs.declared.{LoadingState.LoadingState, WritebackState.WritebackState}
+use Rattle.kinds.specs.declared.{Count.Count, Flag.Flag, Phase.Phase, Reader.Reader, ExcState.ExcState}
+use Rattle.kinds.specs.declared.LoadingState.{LoadingState}
 use Rattle.kinds.specs.Limits.{buckets, capacity, Limits, today}
 use Rattle.kinds.specs.Flags.{is_unmapped}
 use Rattle.readers.specs.declared.Readers.{Readers}
@@ -22,12 +22,12 @@ abbrev pub withdrawn : ExcState → LoadingState → Bool
 withdrawn e l = not (no_load l) || is_editing e
 
 -- storage has a value just if nobody has it out (line 446)
-abbrev pub storage_some_invariant : Storage → ExcState → LoadingState → Bool
+abbrev pub storage_some_invariant : Option ℕ → ExcState → LoadingState → Bool
 storage_some_invariant s e l = beq (is_stored s) (not (withdrawn e l))
 
 -- ---- rule 2: exc_state_invariants, line 450
 -- Claim: lines 458 to 460; PendingAwaitWriteback: 453 to 455; Pending: 463 to 467; Obtained: 470 to 472; none: 474
-abbrev pub exc_state_invariants : ExcState → Storage → LoadingState → WritebackState → Bool
+abbrev pub exc_state_invariants : ExcState → Option ℕ → LoadingState → Option ℕ → Bool
 exc_state_invariants ExcState.None s l w = true
 exc_state_invariants (ExcState.Claim bucket value) s l w = no_load l && valid_bucket bucket && holds s value
 exc_state_invariants (ExcState.PendingAwaitWriteback bucket value) s l w = no_load l && valid_bucket bucket && holds s value
@@ -36,13 +36,13 @@ exc_state_invariants (ExcState.Pending bucket visited clean value) s l w =
 exc_state_invariants (ExcState.Obtained bucket clean value) s l w = no_load l && no_writeback w && valid_bucket bucket
 
 -- ---- rule 3: writeback_state_invariants, line 479
-abbrev pub writeback_state_invariants : WritebackState → Storage → LoadingState → Bool
-writeback_state_invariants WritebackState.None s l = true
-writeback_state_invariants (WritebackState.Held value) s l = no_load l && holds s value
+abbrev pub writeback_state_invariants : Option ℕ → Option ℕ → LoadingState → Bool
+writeback_state_invariants None s l = true
+writeback_state_invariants (Some value) s l = no_load l && holds s value
 
 -- ---- rule 4: loading_state_invariants, line 490
 -- a loader that is counted has a bucket (lines 496 to 503)
-abbrev pub loading_state_invariants : LoadingState → WritebackState → Bool
+abbrev pub loading_state_invariants : LoadingState → Option ℕ → Bool
 loading_state_invariants LoadingState.None w = true
 loading_state_invariants LoadingState.Pending w = no_writeback w
 loading_state_invariants (LoadingState.PendingCounted bucket) w = has_bucket bucket && no_writeback w && valid_bucket bucket
@@ -58,7 +58,7 @@ ref_count_invariant cs readers e l =
     eqb (length cs) buckets && every (λ b. eqb (number_at cs b) (count_all_refs readers e l b)) every_bucket
 
 -- ---- rule 6: flag_invariant, line 556
-abbrev pub flag_invariant : Flag → ExcState → LoadingState → WritebackState → Bool
+abbrev pub flag_invariant : Flag → ExcState → LoadingState → Option ℕ → Bool
 flag_invariant Flag.Unmapped e l w = no_exc e && no_load l && no_writeback w
 flag_invariant Flag.Loading e l w = is_loading l && no_writeback w
 flag_invariant Flag.LoadingExcLock e l w = is_before_loading l && no_writeback w
@@ -85,7 +85,7 @@ abbrev pub may_pass : Flag → ExcState → LoadingState → ℕ → Bool
 may_pass f e l b = exc_lets e b && not (is_before_loading l) && not (is_unmapped f)
 
 -- a reader may hold this value at this bucket (Obtained)
-abbrev pub may_hold : Flag → ExcState → LoadingState → Storage → ℕ → ℕ → Bool
+abbrev pub may_hold : Flag → ExcState → LoadingState → Option ℕ → ℕ → ℕ → Bool
 may_hold f e l s b value = holds s value && exc_lets e b && no_load l && not (is_unmapped f)
 
 abbrev pub phase_valid : Phase → Bool → (ℕ → Bool) → Bool

@@ -1,5 +1,6 @@
 -- What soundness says, as named facts of a head and the list of its readers: what proofs use. proofs/Tested.antt shows that
 -- the test `sound_of` and these facts are the same.
+use Rattle.std.specs.Prelude.{Option}
 use Prim.Native.Nat.{ℕ, ◌≤◌, ◌<◌}
 use mathlib.Core.Path.{◌≡◌}
 use mathlib.Core.Bool.{Bool, ◌&&◌}
@@ -7,8 +8,8 @@ use mathlib.Core.List.{List}
 use lib.Dec.{T}
 use lib.ListN.{length}
 use Rattle.laws.specs.Lists.{every}
-use Rattle.kinds.specs.declared.{Flag.Flag, Storage.Storage, Reader.Reader, ExcState.ExcState}
-use Rattle.kinds.specs.declared.{LoadingState.LoadingState, WritebackState.WritebackState}
+use Rattle.kinds.specs.declared.{Flag.Flag, Reader.Reader, ExcState.ExcState}
+use Rattle.kinds.specs.declared.LoadingState.{LoadingState}
 use Rattle.kinds.specs.Limits.{buckets, capacity, ceiling}
 use Rattle.readers.specs.Listed.{live, listed}
 use Rattle.page_record.specs.declared.{Head.Head, Page.Page}
@@ -18,7 +19,7 @@ use Rattle.rules.specs.Rules.{storage_some_invariant, exc_state_invariants, writ
 use Rattle.rules.specs.Rules.{loading_state_invariants, flag_invariant, shared_state_valid}
 
 -- the rules that speak of the head alone, 1 to 4 and 6; the flag's comes first, so that what it rules out computes away
-abbrev pub head_rules : Storage → Flag → ExcState → LoadingState → WritebackState → Bool
+abbrev pub head_rules : Option ℕ → Flag → ExcState → LoadingState → Option ℕ → Bool
 head_rules s f e l w =
     flag_invariant f e l w
     && storage_some_invariant s e l

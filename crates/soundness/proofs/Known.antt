@@ -1,6 +1,7 @@
 -- What a sound record says, beyond its rules one by one: the facts that the steps and the demands use. First of one reader,
 -- by rule 7; then of flag, holders and storage, read off the twelve shapes (`known`, `holders_within_lem`); then of the list and
 -- the counts, by rules 5 and 7. Assumes nothing.
+use Rattle.std.specs.Prelude.{Option, Some, None}
 use Prim.Native.Nat.{ℕ, ◌≤◌, ◌<◌}
 use mathlib.Core.Path.{◌≡◌, subst}
 use mathlib.Core.Logic.{◌↔◌, ◌⊎◌, inl, inr}
@@ -12,8 +13,8 @@ use lib.ListN.{length, get_or}
 use Rattle.laws.specs.Lists.{every}
 use Rattle.laws.proofs.Tests.{both, halves, and_iff}
 use Rattle.laws.proofs.Lists.{every_mono, every_at, tally_positive}
-use Rattle.kinds.specs.declared.{Count.Count, Flag.Flag, Storage.Storage, Phase.Phase, Reader.Reader, ExcState.ExcState}
-use Rattle.kinds.specs.declared.{LoadingState.LoadingState, WritebackState.WritebackState}
+use Rattle.kinds.specs.declared.{Count.Count, Flag.Flag, Phase.Phase, Reader.Reader, ExcState.ExcState}
+use Rattle.kinds.specs.declared.LoadingState.{LoadingState}
 use Rattle.kinds.specs.Limits.{buckets}
 use Rattle.kinds.specs.Flags.{is_available, claimable, is_unmapped, open_to_readers, not_loading}
 use Rattle.kinds.specs.Numbers.{phase_number}
@@ -65,10 +66,10 @@ module _ (h : Head) (r : Reader) (t : T (shared_state_valid h r)) where
 
 -- ---- flag, holders and storage
 -- the page is in storage, and this is its value
-abbrev pub Stored : Storage → Type 0
-Stored s = s ≡ Storage.In (value_of s)
+abbrev pub Stored : Option ℕ → Type 0
+Stored s = s ≡ Some (value_of s)
 
-pub stored_holds : (s : Storage) → Stored s → T (holds s (value_of s))
+pub stored_holds : (s : Option ℕ) → Stored s → T (holds s (value_of s))
 stored_holds s e = rw e (eqb_refl (value_of s))
 
 pub record Known (h : Head) : Type 0 where
@@ -88,19 +89,19 @@ pub record Known (h : Head) : Type 0 where
   pub passing_idle : (b : ℕ) → T (not_loading h.flag && passing h b) → T (no_load h.loading_state)
   -- a claimant (Claim, PendingAwaitWriteback, Pending): the page is in, with the claimant's value (rule 2)
   pub claimant_in : T (is_claim h.exc_state || is_await h.exc_state || is_pending h.exc_state)
-      → h.storage ≡ Storage.In (exc_value h.exc_state)
-  pub pending_in : T (is_pending h.exc_state) → h.storage ≡ Storage.In (exc_value h.exc_state)
+      → h.storage ≡ Some (exc_value h.exc_state)
+  pub pending_in : T (is_pending h.exc_state) → h.storage ≡ Some (exc_value h.exc_state)
   -- a writeback: the page is in, with its value (rule 3)
-  pub archive_in : (v : ℕ) → h.writeback_state ≡ WritebackState.Held v → h.storage ≡ Storage.In v
+  pub archive_in : (v : ℕ) → h.writeback_state ≡ Some v → h.storage ≡ Some v
 
 never : {A : Type 0} → ⊥ → A
 never t = absurd t
 
 -- there is no writeback, and so no value of one
-no_archive : {A : Type 0} (v : ℕ) → WritebackState.None ≡ WritebackState.Held v → A
+no_archive : {A : Type 0} (v : ℕ) → None ≡ Some v → A
 no_archive v e = absurd (let z : ◌≡◌ {A = ℕ} 0 1 = cc in omega arith)
 
-its_own : (v w : ℕ) → WritebackState.Held v ≡ WritebackState.Held w → Storage.In v ≡ Storage.In w
+its_own : (v w : ℕ) → Some v ≡ Some w → Some v ≡ Some w
 its_own v w e = cc
 
 -- at a shape each fact computes to what its flag, holders and storage are, or its premise is absurd

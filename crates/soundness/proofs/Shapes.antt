@@ -2,6 +2,7 @@
 -- keeps those rules just if it has one of the shapes. `shape` takes a sound head to its shape, `shaped` a valid shape back to a
 -- sound head, and `by_shape` proves a fact of every sound head from the twelve. The flag's rule names the holders, and the others
 -- fill in bucket, value and storage. Assumes nothing.
+use Rattle.std.specs.Prelude.{Option, Some, None}
 use Prim.Native.Nat.{ℕ}
 use mathlib.Core.Path.{◌≡◌, refl, sym, subst}
 use mathlib.Core.Logic.{◌⊎◌, inl, inr}
@@ -10,9 +11,9 @@ use mathlib.Core.List.{List}
 use borrow.Author.Tests.{eq-eqb}
 use lib.Dec.{T, leb, ltb}
 use Rattle.laws.proofs.Tests.{to_true, both, halves, and_iff}
-use Rattle.kinds.specs.declared.{Count.Count, MaybeBucket.MaybeBucket, Flag.Flag, Storage.Storage, ExcState.ExcState}
-use Rattle.kinds.specs.declared.{LoadingState.LoadingState, WritebackState.WritebackState, Bucket.Bucket}
-use Rattle.kinds.specs.declared.{Visited.Visited}
+use Rattle.kinds.specs.declared.{Count.Count, Flag.Flag, ExcState.ExcState}
+use Rattle.kinds.specs.declared.{LoadingState.LoadingState, Bucket.Bucket}
+use Rattle.kinds.specs.declared.Visited.{Visited}
 use Rattle.kinds.specs.Limits.{buckets}
 use Rattle.kinds.specs.Flags.{lock_flag}
 use Rattle.page_record.specs.declared.Head.{Head}
@@ -30,30 +31,30 @@ pub data Shape : Type 0 where
   unmapped : (value : ℕ) → Shape
   waiting : Shape
   counted : (bucket : Bucket) → Shape
-  loading : (bucket : MaybeBucket) → Shape
+  loading : (bucket : Option Bucket) → Shape
   available : (value : ℕ) → Shape
-  claimed : (bucket : MaybeBucket) (value : ℕ) → Shape
+  claimed : (bucket : Option Bucket) (value : ℕ) → Shape
   writeback : (value : ℕ) → Shape
-  writeback_claimed : (bucket : MaybeBucket) (value : ℕ) → Shape
-  writeback_await : (bucket : MaybeBucket) (value : ℕ) → Shape
-  await : (bucket : MaybeBucket) (value : ℕ) → Shape
-  pending : (bucket : MaybeBucket) (visited : Visited) (clean : Bool) (value : ℕ) → Shape
-  editing : (bucket : MaybeBucket) (clean : Bool) (value : ℕ) → Shape
+  writeback_claimed : (bucket : Option Bucket) (value : ℕ) → Shape
+  writeback_await : (bucket : Option Bucket) (value : ℕ) → Shape
+  await : (bucket : Option Bucket) (value : ℕ) → Shape
+  pending : (bucket : Option Bucket) (visited : Visited) (clean : Bool) (value : ℕ) → Shape
+  editing : (bucket : Option Bucket) (clean : Bool) (value : ℕ) → Shape
 
 -- the head of a shape, with these counts
 abbrev pub head_at : Shape → List Count → Head
-head_at (unmapped v) cs = head_with (Storage.In v) Flag.Unmapped cs ExcState.None LoadingState.None WritebackState.None
-head_at waiting cs = head_with Storage.Out Flag.LoadingExcLock cs ExcState.None LoadingState.Pending WritebackState.None
-head_at (counted b) cs = head_with Storage.Out Flag.LoadingExcLock cs ExcState.None (LoadingState.PendingCounted (MaybeBucket.At b)) WritebackState.None
-head_at (loading m) cs = head_with Storage.Out Flag.Loading cs ExcState.None (LoadingState.Obtained m) WritebackState.None
-head_at (available v) cs = head_with (Storage.In v) Flag.Available cs ExcState.None LoadingState.None WritebackState.None
-head_at (claimed m v) cs = head_with (Storage.In v) Flag.Claimed cs (ExcState.Claim m v) LoadingState.None WritebackState.None
-head_at (writeback v) cs = head_with (Storage.In v) Flag.Writeback cs ExcState.None LoadingState.None (WritebackState.Held v)
-head_at (writeback_claimed m v) cs = head_with (Storage.In v) Flag.WritebackAndClaimed cs (ExcState.Claim m v) LoadingState.None (WritebackState.Held v)
-head_at (writeback_await m v) cs = head_with (Storage.In v) Flag.WritebackAndPendingExcLock cs (ExcState.PendingAwaitWriteback m v) LoadingState.None (WritebackState.Held v)
-head_at (await m v) cs = head_with (Storage.In v) Flag.PendingExcLock cs (ExcState.PendingAwaitWriteback m v) LoadingState.None WritebackState.None
-head_at (pending m n clean v) cs = head_with (Storage.In v) (lock_flag clean) cs (ExcState.Pending m n clean v) LoadingState.None WritebackState.None
-head_at (editing m clean v) cs = head_with Storage.Out (lock_flag clean) cs (ExcState.Obtained m clean v) LoadingState.None WritebackState.None
+head_at (unmapped v) cs = head_with (Some v) Flag.Unmapped cs ExcState.None LoadingState.None None
+head_at waiting cs = head_with None Flag.LoadingExcLock cs ExcState.None LoadingState.Pending None
+head_at (counted b) cs = head_with None Flag.LoadingExcLock cs ExcState.None (LoadingState.PendingCounted (Some b)) None
+head_at (loading m) cs = head_with None Flag.Loading cs ExcState.None (LoadingState.Obtained m) None
+head_at (available v) cs = head_with (Some v) Flag.Available cs ExcState.None LoadingState.None None
+head_at (claimed m v) cs = head_with (Some v) Flag.Claimed cs (ExcState.Claim m v) LoadingState.None None
+head_at (writeback v) cs = head_with (Some v) Flag.Writeback cs ExcState.None LoadingState.None (Some v)
+head_at (writeback_claimed m v) cs = head_with (Some v) Flag.WritebackAndClaimed cs (ExcState.Claim m v) LoadingState.None (Some v)
+head_at (writeback_await m v) cs = head_with (Some v) Flag.WritebackAndPendingExcLock cs (ExcState.PendingAwaitWriteback m v) LoadingState.None (Some v)
+head_at (await m v) cs = head_with (Some v) Flag.PendingExcLock cs (ExcState.PendingAwaitWriteback m v) LoadingState.None None
+head_at (pending m n clean v) cs = head_with (Some v) (lock_flag clean) cs (ExcState.Pending m n clean v) LoadingState.None None
+head_at (editing m clean v) cs = head_with None (lock_flag clean) cs (ExcState.Obtained m clean v) LoadingState.None None
 
 -- its bucket is 0 to 3, and its visited number at most 4
 abbrev pub valid : Shape → Bool
@@ -71,7 +72,7 @@ valid (pending m n clean v) = leb n.0 buckets && valid_bucket m
 valid (editing m clean v) = valid_bucket m
 
 -- beside a loader there is no exclusive holder
-pub loads_alone : (e : ExcState) (s : Storage) (l : LoadingState) (w : WritebackState)
+pub loads_alone : (e : ExcState) (s : Option ℕ) (l : LoadingState) (w : Option ℕ)
     → T (exc_state_invariants e s l w) → no_load l ≡ false → e ≡ ExcState.None
 loads_alone ExcState.None s l w t n = refl
 loads_alone (ExcState.Claim m v) s l w t n = absurd (rw n at t)
@@ -81,14 +82,14 @@ loads_alone (ExcState.Obtained m c v) s l w t n = absurd (rw n at t)
 
 -- ---- a sound head has a shape
 -- the rules of the head, apart
-pub record HeadRules (s : Storage) (f : Flag) (e : ExcState) (l : LoadingState) (w : WritebackState) : Type 0 where
+pub record HeadRules (s : Option ℕ) (f : Flag) (e : ExcState) (l : LoadingState) (w : Option ℕ) : Type 0 where
   pub flag : T (flag_invariant f e l w)
   pub storage : T (storage_some_invariant s e l)
   pub exc : T (exc_state_invariants e s l w)
   pub writeback : T (writeback_state_invariants w s l)
   pub loading : T (loading_state_invariants l w)
 
-module _ (s : Storage) (e : ExcState) (l : LoadingState) (w : WritebackState) where
+module _ (s : Option ℕ) (e : ExcState) (l : LoadingState) (w : Option ℕ) where
   pub rules_of : (f : Flag) → T (head_rules s f e l w) → HeadRules s f e l w
   rules_of f t =
       let u = simp and_iff at t in
@@ -99,7 +100,7 @@ module _ (s : Storage) (e : ExcState) (l : LoadingState) (w : WritebackState) wh
 
   -- nobody has the page out
   idle : T (no_exc e) → T (no_load l) → T (storage_some_invariant s e l)
-      → (e ≡ ExcState.None) × (l ≡ LoadingState.None) × (s ≡ Storage.In (value_of s))
+      → (e ≡ ExcState.None) × (l ≡ LoadingState.None) × (s ≡ Some (value_of s))
   idle x y t =
       let a = no_exc_lem e x in
       let b = no_load_lem l y in
@@ -107,20 +108,20 @@ module _ (s : Storage) (e : ExcState) (l : LoadingState) (w : WritebackState) wh
 
   -- a claimant: nobody loads, its bucket is in range, and its value is in storage
   claims : T (no_load l && valid_bucket (exc_bucket e) && holds s (exc_value e))
-      → (l ≡ LoadingState.None) × T (valid_bucket (exc_bucket e)) × (s ≡ Storage.In (exc_value e))
+      → (l ≡ LoadingState.None) × T (valid_bucket (exc_bucket e)) × (s ≡ Some (exc_value e))
   claims t =
       let u = simp and_iff at t in
       (no_load_lem l u.0.0, u.0.1, is_holding s (exc_value e) u.1)
 
   -- a writeback: its value is the one in storage
-  writes : (v : ℕ) → T (not (no_writeback w)) → T (writeback_state_invariants w s l) → s ≡ Storage.In v → w ≡ WritebackState.Held v
+  writes : (v : ℕ) → T (not (no_writeback w)) → T (writeback_state_invariants w s l) → s ≡ Some v → w ≡ Some v
   writes v x t a =
       let b = is_held w x in
       let c = is_holding s (writeback_value w) (halves (no_load l) (holds s (writeback_value w)) (rw b at t)).1 in
       cc
 
   -- a loader that has not come to Obtained
-  loads : HeadRules s Flag.LoadingExcLock e l w → w ≡ WritebackState.None
+  loads : HeadRules s Flag.LoadingExcLock e l w → w ≡ None
       → (l ≡ LoadingState.Pending) ⊎ (l ≡ LoadingState.PendingCounted (loading_bucket l)) → Shaped Flag.LoadingExcLock
   loads r c (inl b) =
       let a = loads_alone e s l w r.exc (rw b) in
@@ -132,7 +133,7 @@ module _ (s : Storage) (e : ExcState) (l : LoadingState) (w : WritebackState) wh
       rw (a, b, c, d, is_out_lem s (rw (a, b) at r.storage)) (counted (bucket_of (loading_bucket l)), rw d at k.1, λ cs. refl)
 
   -- an editor that is Pending or Obtained
-  locks : (clean : Bool) → HeadRules s (lock_flag clean) e l w → w ≡ WritebackState.None
+  locks : (clean : Bool) → HeadRules s (lock_flag clean) e l w → w ≡ None
       → (e ≡ ExcState.Pending (exc_bucket e) (exc_visited e) clean (exc_value e)) ⊎ (e ≡ ExcState.Obtained (exc_bucket e) clean (exc_value e))
       → Shaped (lock_flag clean)
   locks clean r c (inl a) =

@@ -20,38 +20,27 @@ const RULES: usize = 8;
 fn first_broken(tests: [bool; RULES]) -> u8
     ensures { result ≡ first_broken 1 tests }
 {
-    let mut i: usize = 0;
-    while i < RULES {
-        if !tests[i] {
-            return i as u8 + 1;
-        }
-        i += 1;
+    match tests.iter().position(|passes| !*passes) {
+        Some(i) => i as u8 + 1,
+        None => 0,
     }
-    0
 }
 
-// The lowest broken rule, 1 to 8; 0 where none is broken.
+// The lowest broken rule, 1 to 8; 0 where none is broken: a number, as in the clause `lowest_broken` and for the drill.
 #[tactic(auto, unfolding(crate::specs::Soundness::lowest_broken))]
 pub fn broken_rule(page: Page) -> u8
     ensures { result ≡ lowest_broken page }
 {
-    let storage = page.storage;
-    let flag = page.flag;
-    let counts = page.ref_counts;
-    let readers = page.readers;
-    let exc = page.exc_state;
-    let loading = page.loading_state;
-    let writeback = page.writeback_state;
-    let head = head_of(page);
+    let h = head_of(page);
     first_broken([
-        storage_some_invariant(storage, exc, loading),
-        exc_state_invariants(exc, storage, loading, writeback),
-        writeback_state_invariants(writeback, storage, loading),
-        loading_state_invariants(loading, writeback),
-        ref_count_invariant(counts, readers, exc, loading),
-        flag_invariant(flag, exc, loading, writeback),
-        shared_storage_invariant(head, readers),
-        limits_kept(head, readers),
+        storage_some_invariant(h.storage, h.exc_state, h.loading_state),
+        exc_state_invariants(h.exc_state, h.storage, h.loading_state, h.writeback_state),
+        writeback_state_invariants(h.writeback_state, h.storage, h.loading_state),
+        loading_state_invariants(h.loading_state, h.writeback_state),
+        ref_count_invariant(h.ref_counts, page.readers, h.exc_state, h.loading_state),
+        flag_invariant(h.flag, h.exc_state, h.loading_state, h.writeback_state),
+        shared_storage_invariant(h, page.readers),
+        limits_kept(h, page.readers),
     ])
 }
 
@@ -67,5 +56,5 @@ pub fn is_sound(page: Page) -> bool
 pub fn sound(page: Page) -> u8
     ensures { result ≡ sound_number page }
 {
-    if is_sound(page) { 0 } else { 1 }
+    !is_sound(page) as u8
 }

@@ -1,7 +1,7 @@
 -- Which step a request names, which reader it looks for, and what is decided.
-use Rattle.std.specs.Prelude.{Bool, false, List, [], ◌∷◌, get_or}
+use Rattle.std.specs.Prelude.{Bool, Option, Some, None, ℕ, false, List, [], ◌∷◌, get_or}
 use Rattle.kinds.specs.declared.Phase.{Phase}
-use Rattle.readers.specs.declared.Found.{Found}
+use Rattle.kinds.specs.declared.Reader.{Reader}
 use Rattle.page_record.specs.declared.Head.{Head}
 use Rattle.requests.specs.declared.{Refusal.Refusal, Request.Request}
 use Rattle.heads.specs.declared.{Edit.Edit, Decision.Decision}
@@ -14,14 +14,13 @@ use Rattle.reading.specs.Steps.{obtain_loading_no_refcount, deposit_loading_to_s
 use Rattle.reading.specs.Steps.{shared_dec_count, shared_check_exc, shared_check_loading}
 use Rattle.returning.specs.Steps.{discard_claim, claim_to_shared, pending_to_claim, cancel_exc_lock_to_claim}
 use Rattle.returning.specs.Steps.{deposit_exc_lock_to_done, deposit_exc_lock_to_unmapped}
-use Rattle.steps.specs.declared.Sought.{Sought}
 
 -- a number that names no step is refused
 abbrev pub unknown : Head → Step
 unknown h = accepts ((Refusal.UnknownStep, false) ∷ []) h Edit.Keep
 
 -- the steps by their numbers, from 0
-abbrev pub steps : Head → Request → Found → Bool → List Step
+abbrev pub steps : Head → Request → Option ℕ → Bool → List Step
 steps h q found full =
     unknown h
     ∷ take_writeback h
@@ -56,20 +55,20 @@ steps h q found full =
     ∷ deposit_exc_lock_to_unmapped h q
     ∷ []
 
-abbrev pub step_at : Head → Request → Found → Bool → Step
+abbrev pub step_at : Head → Request → Option ℕ → Bool → Step
 step_at h q found full = get_or (steps h q found full) q.step (unknown h)
 
-unfoldable pub decide_of : Head → Request → Found → Bool → Decision
+unfoldable pub decide_of : Head → Request → Option ℕ → Bool → Decision
 decide_of h q found full = decided h (step_at h q found full)
 
 -- the readers that the steps look for, by their numbers, from 0: 4 and 22 an Obtained one with the request's value, 20 and
 -- 23 a Pending one, 21 and 24 a Pending2 one
-abbrev pub sought : Request → List Sought
+abbrev pub sought : Request → List (Option Reader)
 sought q =
-    let nobody = Sought.Nobody in
-    let pending = Sought.One (reader Phase.Pending q.bucket) in
-    let pending2 = Sought.One (reader Phase.Pending2 q.bucket) in
-    let obtained = Sought.One (reader (Phase.Obtained q.value) q.bucket) in
+    let nobody = None in
+    let pending = Some (reader Phase.Pending q.bucket) in
+    let pending2 = Some (reader Phase.Pending2 q.bucket) in
+    let obtained = Some (reader (Phase.Obtained q.value) q.bucket) in
     nobody ∷ nobody ∷ nobody ∷ nobody ∷ obtained
     ∷ nobody ∷ nobody ∷ nobody ∷ nobody ∷ nobody
     ∷ nobody ∷ nobody ∷ nobody ∷ nobody ∷ nobody
@@ -78,5 +77,5 @@ sought q =
     ∷ nobody ∷ nobody ∷ nobody ∷ nobody ∷ nobody ∷ nobody
     ∷ []
 
-unfoldable pub sought_of : Request → Sought
-sought_of q = get_or (sought q) q.step Sought.Nobody
+unfoldable pub sought_of : Request → Option Reader
+sought_of q = get_or (sought q) q.step None

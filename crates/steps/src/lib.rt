@@ -15,7 +15,6 @@ use editing::{
 use heads::{Decision, refuse};
 use kinds::{Phase, Reader};
 use page_record::Head;
-use readers::Found;
 use reading::{
     deposit_loading_to_done, deposit_loading_to_shared, loading_inc_count, obtain_loading,
     obtain_loading_no_refcount, shared_check_exc, shared_check_loading, shared_dec_count,
@@ -27,54 +26,32 @@ use returning::{
     deposit_exc_lock_to_unmapped, discard_claim, pending_to_claim,
 };
 
-// The reader that a step looks for.
-#[derive(Clone, Copy)]
-pub enum Sought {
-    Nobody,
-    One(Reader),
-}
-
 // The reader that a request looks for: 4 and 22 an Obtained one with the request's value, 20 and 23 a Pending one, 21 and 24
 // a Pending2 one.
 #[tactic(auto, unfolding(crate::specs::Decide::sought_of))]
-pub fn sought_by(request: Request) -> Sought
+pub fn sought_by(request: Request) -> Option<Reader>
     ensures { result ≡ sought_of request }
 {
-    let step = request.step;
-    let bucket = request.bucket;
-    let value = request.value;
-    let pending = Reader {
-        phase: Phase::Pending,
-        bucket,
+    let phase = match request.step {
+        4 | 22 => Phase::Obtained(request.value),
+        20 | 23 => Phase::Pending,
+        21 | 24 => Phase::Pending2,
+        _ => return None,
     };
-    let pending2 = Reader {
-        phase: Phase::Pending2,
-        bucket,
-    };
-    let obtained = Reader {
-        phase: Phase::Obtained(value),
-        bucket,
-    };
-    match step {
-        4 => Sought::One(obtained),
-        20 => Sought::One(pending),
-        21 => Sought::One(pending2),
-        22 => Sought::One(obtained),
-        23 => Sought::One(pending),
-        24 => Sought::One(pending2),
-        _ => Sought::Nobody,
-    }
+    Some(Reader {
+        phase,
+        bucket: request.bucket,
+    })
 }
 
 // The step that a request names, on a head. `found` is where the reader that it looks for stands, and `full` whether the list
-// has no room.
+// has no room. The step's byte may be any, and each number calls the source's step by its name: an enum of the 30 would be made of
+// the number only to be matched on once.
 #[tactic(auto, unfolding(crate::specs::Decide::decide_of))]
-pub fn decide(head: Head, request: Request, found: Found, full: bool) -> Decision
+pub fn decide(head: Head, request: Request, found: Option<usize>, full: bool) -> Decision
     ensures { result ≡ decide_of head request found full }
 {
-    let number = request.step;
-    match number {
-        0 => refuse(head, Refusal::UnknownStep),
+    match request.step {
         1 => take_writeback(head),
         2 => release_writeback(head),
         3 => bucketless_claim(head),
@@ -94,9 +71,7 @@ pub fn decide(head: Head, request: Request, found: Found, full: bool) -> Decisio
         17 => deposit_loading_to_done(head, request),
         18 => exc_inc_count(head, request),
         19 => shared_inc_count(head, request, full),
-        20 => shared_dec_count(head, request, found),
-        21 => shared_dec_count(head, request, found),
-        22 => shared_dec_count(head, request, found),
+        20..=22 => shared_dec_count(head, request, found),
         23 => shared_check_exc(head, request, found),
         24 => shared_check_loading(head, request, found),
         25 => discard_claim(head),
@@ -105,6 +80,6 @@ pub fn decide(head: Head, request: Request, found: Found, full: bool) -> Decisio
         28 => cancel_exc_lock_to_claim(head),
         29 => deposit_exc_lock_to_done(head, request),
         30 => deposit_exc_lock_to_unmapped(head, request),
-        31..=255 => refuse(head, Refusal::UnknownStep),
+        0 | 31..=255 => refuse(head, Refusal::UnknownStep),
     }
 }

@@ -1,5 +1,6 @@
 -- A sound page that accepts a request, for each of the 93 entries that are flags: with at most one reader, at bucket 0, and with the
 -- value 0 wherever one is. One computed test shows them all, and that none is missing (`exhibited`). Assumes nothing.
+use Rattle.std.specs.Prelude.{Option, Some, None}
 use Prim.Native.Nat.{ℕ, ◌<◌}
 use mathlib.Core.Path.{◌≡◌, refl}
 use mathlib.Core.Bool.{Bool, true, false, cond, ◌&&◌}
@@ -8,7 +9,7 @@ use lib.Dec.{T, eqb, eqb→eq}
 use Rattle.laws.specs.Lists.{every, among}
 use Rattle.laws.proofs.Tests.{and_iff}
 use Rattle.laws.proofs.Pick.{each_below}
-use Rattle.kinds.specs.declared.{Bucket.Bucket, Count.Count, Flag.Flag, MaybeBucket.MaybeBucket, Reader.Reader}
+use Rattle.kinds.specs.declared.{Bucket.Bucket, Count.Count, Flag.Flag, Reader.Reader}
 use Rattle.kinds.specs.Limits.{buckets}
 use Rattle.kinds.specs.Numbers.{flag_number, flags}
 use Rattle.readers.specs.Listed.{listed}
@@ -22,7 +23,6 @@ use Rattle.soundness.proofs.Shapes.{writeback_claimed, writeback_await, await, p
 use Rattle.requests.specs.declared.Request.{Request}
 use Rattle.requests.specs.Answers.{answer_number}
 use Rattle.requests.specs.Requests.{judged}
-use Rattle.steps.specs.declared.Sought.{Sought}
 use Rattle.steps.specs.Decide.{sought_of, decide_of}
 use Rattle.lock.specs.Step.{look_for, step_of}
 use Rattle.table.specs.Table.{columns}
@@ -34,14 +34,14 @@ use Rattle.table.proofs.Lands.{asked}
 abbrev first : Bucket
 first = record { 0 = 0 }
 
-abbrev own : MaybeBucket
-own = MaybeBucket.At first
+abbrev own : Option Bucket
+own = Some first
 
 -- an editor's lock: Obtained for 9, 10, 29 and 30, without a bucket for 18; with every bucket visited for 8
 abbrev locked : Bool → ℕ → Shape
 locked clean c =
     cond (among (9 ∷ 10 ∷ 29 ∷ 30 ∷ []) c) (editing own clean 0)
-    (cond (eqb c 18) (editing MaybeBucket.None clean 0)
+    (cond (eqb c 18) (editing None clean 0)
     (pending own (record { 0 = cond (eqb c 8) buckets 0 }) clean 0))
 
 -- who holds the page
@@ -62,9 +62,9 @@ abbrev pub request : ℕ → Request
 request c = asked first 0 c
 
 -- who is listed: the reader that the step looks for
-abbrev listing : Sought → List Reader
-listing Sought.Nobody = []
-listing (Sought.One x) = x ∷ []
+abbrev listing : Option Reader → List Reader
+listing None = []
+listing (Some x) = x ∷ []
 
 abbrev pub page : Flag → ℕ → Page
 page f c =

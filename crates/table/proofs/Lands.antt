@@ -1,6 +1,7 @@
 -- What is decided at each flag and column. At each shape one test over the columns is computed (`at_shape`): where RULES 7.5 has a
 -- flag, the step leaves that one; where it has none, the step's first premise that fails is the flag's or the holder's.
 -- `decides` reads it for every sound head and its list. Assumes nothing.
+use Rattle.std.specs.Prelude.{Option, Result, Ok, Err}
 use Prim.Native.Nat.{ℕ, ◌<◌}
 use mathlib.Core.Path.{◌≡◌, refl, sym, subst, ap, ◌∙◌}
 use mathlib.Core.Bool.{Bool, true, false}
@@ -10,12 +11,11 @@ use lib.Dec.{T, eqb, eqb→eq}
 use Rattle.laws.proofs.Pick.{each_below, each_below_lem}
 use Rattle.kinds.specs.declared.{Bucket.Bucket, Count.Count, Reader.Reader}
 use Rattle.kinds.specs.Numbers.{flag_number}
-use Rattle.readers.specs.declared.Found.{Found}
 use Rattle.page_record.specs.declared.Head.{Head}
 use Rattle.soundness.proofs.Facts.{Sound}
 use Rattle.soundness.proofs.Shapes.{Shape, unmapped, waiting, counted, loading, available, claimed, writeback}
 use Rattle.soundness.proofs.Shapes.{writeback_claimed, writeback_await, await, pending, editing, head_at, by_shape}
-use Rattle.requests.specs.declared.{Refusal.Refusal, Request.Request, Verdict.Verdict}
+use Rattle.requests.specs.declared.{Refusal.Refusal, Request.Request}
 use Rattle.requests.specs.Answers.{refusal_number, verdict_number, answer_number}
 use Rattle.requests.specs.Premises.{verdict}
 use Rattle.requests.proofs.Reasons.{reason_at, reason_told, refusal_above}
@@ -41,7 +41,7 @@ lands_as Next.nowhere st lets = eqb (verdict_number (verdict st.premises)) (refu
 abbrev pub asked : Bucket → ℕ → ℕ → Request
 asked b v c = record { step = step_in c; bucket = b; clean = clean_in c; value = v }
 
-module _ (b : Bucket) (v : ℕ) (o : Found) (full : Bool) where
+module _ (b : Bucket) (v : ℕ) (o : Option ℕ) (full : Bool) where
   abbrev lands : Head → ℕ → Bool
   lands h c =
       let q = asked b v c in
@@ -74,14 +74,14 @@ Decides Next.nowhere lets h d = d ≡ refused h (why_never lets)
 why_told : (lets : Bool) (why : Refusal) → refusal_number why ≡ refusal_number (why_never lets) → why ≡ why_never lets
 why_told lets why e = sym (reason_told why) ∙ ap reason_at e ∙ reason_told (why_never lets)
 
-settles : (next : Next) (lets : Bool) (h : Head) (st : Step) (v : Verdict)
+settles : (next : Next) (lets : Bool) (h : Head) (st : Step) (v : Result (Unit {0}) Refusal)
     → verdict st.premises ≡ v → T (lands_as next st lets) → Decides next lets h (settled h st v)
-settles (Next.to g) lets h st Verdict.Passed e t = λ a. flag_told st.head.flag g (eqb→eq _ _ t)
-settles (Next.to g) lets h st (Verdict.Failed why) e t = λ a. absurd (omega (arith, refusal_above why))
-settles Next.nowhere lets h st Verdict.Passed e t =
+settles (Next.to g) lets h st (Ok _) e t = λ a. flag_told st.head.flag g (eqb→eq _ _ t)
+settles (Next.to g) lets h st (Err why) e t = λ a. absurd (omega (arith, refusal_above why))
+settles Next.nowhere lets h st (Ok _) e t =
     let z = ap verdict_number (sym e) ∙ eqb→eq _ _ t in
     absurd (omega (arith, refusal_above (why_never lets)))
-settles Next.nowhere lets h st (Verdict.Failed why) e t =
+settles Next.nowhere lets h st (Err why) e t =
     ap (refused h) (why_told lets why (ap verdict_number (sym e) ∙ eqb→eq _ _ t))
 
 same_request : (q : Request) (n clean : ℕ) → q.step ≡ n → q.clean ≡ clean
@@ -103,7 +103,7 @@ module _ {h : Head} {l : List Reader} (s : Sound h l) (c : ℕ) (k : c < columns
       let x = head_at z cs in
       let lets = flag_lets (step_in c) x.flag in
       let t = each_below_lem (lands b v o full x) columns c (at_shape b v o full z cs) k in
-      let u = subst (λ (o : Found). T (lands_as (next_flag x.flag c) (step_at x q o full) lets)) (seen_is s (sought_of q)) t in
+      let u = subst (λ (o : Option ℕ). T (lands_as (next_flag x.flag c) (step_at x q o full) lets)) (seen_is s (sought_of q)) t in
       settles (next_flag x.flag c) lets x (step_at x q o full) (verdict (step_at x q o full).premises) refl u)
       h s.head s
 

@@ -4,12 +4,14 @@
 -- has an entry that is right, a number that is no step has none, and any clean but 1 is dirty (`step_entry`, `no_step`,
 -- `other_clean`). Where an entry says never, the answer is 5 or 6 (`never_number`). So the engine by the table is the step by value
 -- (`looked_up_lem`). Assumes nothing.
+use Rattle.std.specs.Prelude.{Result, Ok, Err}
 use Prim.Native.Nat.{ℕ, ◌-◌, ◌<◌}
 use mathlib.Core.Path.{◌≡◌, refl, sym, ap, ◌∙◌}
 use mathlib.Core.Bool.{Bool, true, false, not, cond, ◌&&◌, ◌||◌}
 use native.Mathlib.Omega.{arith}
 use borrow.Author.Tests.{ne_eqb}
 use lib.Dec.{T, eqb, ltb, leb, eqb→eq, ltb→lt}
+use Rattle.std.specs.List.{flat_map}
 use Rattle.laws.specs.Lists.{tally, every}
 use Rattle.laws.proofs.Tests.{is_true, to_true, both, and_iff}
 use Rattle.laws.proofs.Pick.{each_below, each_below_lem}
@@ -20,7 +22,8 @@ use Rattle.page_record.specs.declared.Page.{Page}
 use Rattle.page_record.specs.Pages.{head_of, page_of}
 use Rattle.soundness.specs.Soundness.{sound_of}
 use Rattle.soundness.proofs.Tested.{facts}
-use Rattle.requests.specs.declared.{Request.Request, Verdict.Verdict}
+use Rattle.requests.specs.declared.Request.{Request}
+use Rattle.requests.specs.declared.Refusal.{Refusal}
 use Rattle.requests.specs.Answers.{answer_number}
 use Rattle.requests.specs.Requests.{past_last, is_step, takes_clean, formal, judged}
 use Rattle.requests.proofs.Verdicts.{passed}
@@ -32,12 +35,12 @@ use Rattle.lock.specs.declared.Outcome.{Outcome}
 use Rattle.lock.specs.Step.{edited_in, refused_by, applied, stepped, step_of}
 use Rattle.lock.specs.Applies.{flag_lets}
 use Rattle.lock.proofs.Keeps.{unfit_stays}
-use Rattle.table.specs.Table.{columns, step_in, clean_in, column_of, never, entry_at, entry_of}
+use Rattle.table.specs.Table.{columns, step_in, clean_in, column_of, never, row, entry_at, entry_of}
 use Rattle.table.specs.Next.{Next, next_number, next_flag}
 use Rattle.table.specs.Entry.{Asks, Entry, none, some}
 use Rattle.table.specs.Engine.{why_never, marked, taken, looked_up}
 use Rattle.table.proofs.Flags.{at_place, flag_below}
-use Rattle.table.proofs.Rows.{array, past_row}
+use Rattle.table.proofs.Rows.{past_row}
 use Rattle.table.proofs.Lands.{decides}
 use Rattle.table.proofs.Exhibits.{page, request, exhibited}
 
@@ -50,22 +53,22 @@ entry_says : (f : Flag) (c : ℕ) → c < columns → entry_at f c ≡ next_numb
 entry_says f c k = eqb→eq _ _ (at_place (λ f c. eqb (entry_at f c) (next_number (next_flag f c))) rows_say f c k)
 
 -- so many are flags
-pub ninety_three : tally (λ n. not (eqb n never)) array ≡ 93
+pub ninety_three : tally (λ n. not (eqb n never)) (flat_map row flags) ≡ 93
 ninety_three = refl
 
 -- ---- the words and the step
 -- what is accepted is well formed
-accepted_fits : (p : Page) (q : Request) → T (sound_of p) → answer_number (step_of p q).answer ≡ 0 → judged q ≡ Verdict.Passed
+accepted_fits : (p : Page) (q : Request) → T (sound_of p) → answer_number (step_of p q).answer ≡ 0 → judged q ≡ Ok tt
 accepted_fits p q t a = go (judged q) refl
   where
-    go : (v : Verdict) → judged q ≡ v → judged q ≡ Verdict.Passed
-    go Verdict.Passed e = e
-    go (Verdict.Failed why) e =
+    go : (v : Result (Unit {0}) Refusal) → judged q ≡ v → judged q ≡ Ok tt
+    go (Ok _) e = e
+    go (Err why) e =
         let z = ap (λ (o : Outcome). answer_number o.answer) (unfit_stays p q why t e) in
         absurd (omega (arith, refusal_above why))
 
-module _ (p : Page) (q : Request) (t : T (sound_of p)) (fit : judged q ≡ Verdict.Passed) where
-  step_is : step_of p q ≡ stepped p q Verdict.Passed
+module _ (p : Page) (q : Request) (t : T (sound_of p)) (fit : judged q ≡ Ok tt) where
+  step_is : step_of p q ≡ stepped p q (Ok tt)
   unfolding step_of
   step_is = rw (to_true (sound_of p) t, fit)
 
@@ -114,7 +117,7 @@ fits n clean =
 all_fit : T (each_below (λ n. each_below (fits n) 2) past_last)
 all_fit = tt
 
-pub columned : (q : Request) → judged q ≡ Verdict.Passed
+pub columned : (q : Request) → judged q ≡ Ok tt
     → (column_of q.step q.clean < columns) × Asks (column_of q.step q.clean) q
 unfolding judged
 columned q e =
@@ -147,7 +150,7 @@ pub other_clean : (f : Flag) (n clean : ℕ) → eqb clean 1 ≡ false → entry
 other_clean f n clean e = simp e
 
 -- ---- the engine
-module _ (p : Page) (q : Request) (t : T (sound_of p)) (fit : judged q ≡ Verdict.Passed) where
+module _ (p : Page) (q : Request) (t : T (sound_of p)) (fit : judged q ≡ Ok tt) where
   abbrev column : ℕ
   column = column_of q.step q.clean
 

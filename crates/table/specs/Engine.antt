@@ -1,10 +1,10 @@
 -- What the engine by the table does with a request whose fields are in order, on a page that was judged (RULES 7.6).
 -- proofs/Rule.antt shows that this is the step by value.
-use Rattle.std.specs.Prelude.{ℕ, Bool, cond, eqb}
+use Rattle.std.specs.Prelude.{ℕ, Ok, Bool, cond, eqb}
 use Rattle.kinds.specs.Numbers.{flag_from}
 use Rattle.page_record.specs.declared.Page.{Page}
 use Rattle.page_record.specs.Pages.{head_of, page_of}
-use Rattle.requests.specs.declared.{Refusal.Refusal, Request.Request, Verdict.Verdict}
+use Rattle.requests.specs.declared.{Refusal.Refusal, Request.Request}
 use Rattle.requests.specs.Answers.{answer_number}
 use Rattle.heads.specs.Setters.{with_flag}
 use Rattle.lock.specs.declared.Outcome.{Outcome}
@@ -26,7 +26,7 @@ marked n o =
 -- refused at once where the entry is 255
 abbrev pub taken : ℕ → Page → Request → Outcome
 taken n p q =
-    cond (eqb n never) (refused_by p (why_never (flag_lets q.step p.flag))) (marked n (stepped p q Verdict.Passed))
+    cond (eqb n never) (refused_by p (why_never (flag_lets q.step p.flag))) (marked n (stepped p q (Ok tt)))
 
 unfoldable pub looked_up : Page → Request → Outcome
 looked_up p q = taken (entry_of p.flag q.step q.clean) p q

@@ -17,39 +17,28 @@ use lock::{Outcome, refuse, take_step};
 pub use next::NEVER;
 use next::{COLUMNS, NEXT};
 use page_record::Page;
-use requests::{Refusal, Request, Verdict, answer_number, judge};
+use requests::{Answer, Refusal, Request, judge};
 use soundness::is_sound;
 
-// The column of a step, or 31 for a number that is no step. 6 has two, and the clean one comes first: so every step before it stands
-// one to the left of its number.
+// The column of a step, or 31, where no row has an entry, for a number that is no step. 6 has two, and the clean one comes first: so
+// every step before it stands one to the left of its number.
 fn column_of(step: u8, clean: u8) -> usize
     ensures { result ≡ column_of step clean }
 {
-    if step == 0 {
-        return COLUMNS;
+    match (step, clean) {
+        (1..=5, _) | (6, 1) => usize::from(step) - 1,
+        (6..=30, _) => usize::from(step),
+        _ => COLUMNS,
     }
-    let number = step as usize;
-    if COLUMNS <= number {
-        return COLUMNS;
-    }
-    if number < 6 {
-        return number - 1;
-    }
-    if (number == 6) & (clean == 1) {
-        return number - 1;
-    }
-    number
 }
 
 // The number of the flag that follows, or 255. A number that is no step has none, and any clean but 1 is dirty.
+// It is a number and no Option of a flag: RULES 7.5 says the numbers, and `entry_of` and the theorem `rule` are over them.
 pub fn entry(flag: Flag, step: u8, clean: u8) -> u8
     ensures { result ≡ entry_of flag step clean }
 {
-    let column = column_of(step, clean);
-    if COLUMNS <= column {
-        return NEVER;
-    }
-    NEXT[COLUMNS * flag_number(flag) as usize + column]
+    let row = &NEXT[usize::from(flag_number(flag))];
+    row.get(column_of(step, clean)).copied().unwrap_or(NEVER)
 }
 
 // Whether the step takes this flag; most steps ask nothing of it.
@@ -58,11 +47,9 @@ fn flag_lets(step: u8, flag: Flag) -> bool
 {
     match step {
         1 => is_available(flag),
-        3 => claimable(flag),
-        4 => claimable(flag),
+        3 | 4 => claimable(flag),
         6 => writeback_done(flag),
-        11 => is_unmapped(flag),
-        12 => is_unmapped(flag),
+        11 | 12 => is_unmapped(flag),
         23 => open_to_readers(flag),
         24 => not_loading(flag),
         _ => true,
@@ -73,16 +60,14 @@ fn flag_lets(step: u8, flag: Flag) -> bool
 fn mark(out: Outcome, number: u8) -> Outcome
     ensures { result ≡ marked number out }
 {
-    let answer = out.answer;
-    if answer_number(answer) != 0 {
+    if matches!(out.answer, Answer::Refused(_)) {
         return out;
     }
-    let page = out.page;
     Outcome {
-        answer,
+        answer: out.answer,
         page: Page {
             flag: flag_from(number),
-            ..page
+            ..out.page
         },
     }
 }
@@ -93,10 +78,9 @@ fn mark(out: Outcome, number: u8) -> Outcome
 fn look_up(page: Page, request: Request) -> Outcome
     ensures { result ≡ looked_up page request }
 {
-    let flag = page.flag;
-    let number = entry(flag, request.step, request.clean);
+    let number = entry(page.flag, request.step, request.clean);
     if number == NEVER {
-        if flag_lets(request.step, flag) {
+        if flag_lets(request.step, page.flag) {
             return refuse(page, Refusal::NoHolder);
         }
         return refuse(page, Refusal::WrongFlag);
@@ -105,15 +89,15 @@ fn look_up(page: Page, request: Request) -> Outcome
 }
 
 // One request on one page, as `lock::step` has it.
+#[tactic(auto, using(lock::proofs::Keeps::unsound_stays, lock::proofs::Keeps::unfit_stays, crate::proofs::Rule::looked_up_lem))]
 pub fn step_by_table(page: Page, request: Request) -> Outcome
     ensures { result ≡ step_of page request }
 {
     if !is_sound(page) {
         return refuse(page, Refusal::Unsound);
     }
-    let verdict = judge(request);
-    match verdict {
-        Verdict::Passed => look_up(page, request),
-        Verdict::Failed(why) => refuse(page, why),
+    match judge(request) {
+        Ok(()) => look_up(page, request),
+        Err(why) => refuse(page, why),
     }
 }

@@ -1,6 +1,7 @@
 -- Reading one request and writing one give the first number that applies: of 12, 2, 3 and 4 to the bytes (`read_number`), where 12
 -- is given just if they are not sixteen (`read_ragged_number`) and else the others decide (`read_whole`); of 2, 3, 4 and 14 to the
 -- request and the buffer (`write_number`). Neither carries a value. Assumes nothing.
+use Rattle.std.specs.Prelude.{Result, Ok, Err}
 use Prim.Native.Nat.{ℕ, ◌≤◌}
 use mathlib.Core.Path.{◌≡◌, refl, sym, ap, ◌∙◌}
 use mathlib.Core.Logic.{◌↔◌}
@@ -14,7 +15,7 @@ use Rattle.laws.proofs.Tests.{is_true, not_both}
 use Rattle.laws.proofs.Orders.{leb_ltb}
 use Rattle.laws.proofs.Tables.{first_before, first_after}
 use Rattle.kinds.specs.Limits.{line_size}
-use Rattle.requests.specs.declared.{Refusal.Refusal, Request.Request, Verdict.Verdict}
+use Rattle.requests.specs.declared.{Refusal.Refusal, Request.Request}
 use Rattle.requests.specs.Answers.{verdict_number, answer_number, withdraws}
 use Rattle.requests.specs.Premises.{verdict}
 use Rattle.requests.specs.Requests.{is_step, formal, judged}
@@ -29,9 +30,9 @@ use Rattle.wire.specs.Requests.{fields_of, readable, reading_of, reading_number,
 use Rattle.wire.specs.Applies.{applies12, applies3_in, applying_bytes, applies14, applying_write}
 
 -- ---- reading
-reading_number_lem : (q : Request) (v : Verdict) → reading_number (reading_of q v) ≡ verdict_number v
-reading_number_lem q Verdict.Passed = refl
-reading_number_lem q (Verdict.Failed why) = refl
+reading_number_lem : (q : Request) (v : Result (Unit {0}) Refusal) → reading_number (reading_of q v) ≡ verdict_number v
+reading_number_lem q (Ok _) = refl
+reading_number_lem q (Err why) = refl
 
 few : (a b c : Bool) → first_applying ((2, a) ∷ (3, b) ∷ (4, c) ∷ []) ≤ 4
 few true b c = omega arith
@@ -67,28 +68,28 @@ module _ (l : List ℕ) where
       there e h = omega (arith, read_whole h, few (applies2 q) (applies3_in l) (applies4 q))
 
 -- ---- writing
-pub answer_number_lem : (v : Verdict) → answer_number (answer_for v) ≡ verdict_number v
-answer_number_lem Verdict.Passed = refl
-answer_number_lem (Verdict.Failed why) = refl
+pub answer_number_lem : (v : Result (Unit {0}) Refusal) → answer_number (answer_for v) ≡ verdict_number v
+answer_number_lem (Ok _) = refl
+answer_number_lem (Err why) = refl
 
-pub answer_plain : (v : Verdict) → withdraws (answer_for v) ≡ false
-answer_plain Verdict.Passed = refl
-answer_plain (Verdict.Failed why) = refl
+pub answer_plain : (v : Result (Unit {0}) Refusal) → withdraws (answer_for v) ≡ false
+answer_plain (Ok _) = refl
+answer_plain (Err why) = refl
 
 room_number : (short : Bool)
-    → verdict_number (cond (not short) Verdict.Passed (Verdict.Failed Refusal.NoRoom)) ≡ first_applying ((14, short) ∷ [])
+    → verdict_number (cond (not short) (Ok tt) (Err Refusal.NoRoom)) ≡ first_applying ((14, short) ∷ [])
 room_number true = refl
 room_number false = refl
 
 module _ (q : Request) (buffer : List ℕ) where
   -- the fields' number comes first
-  fields_first : (v : Verdict) → judged q ≡ v
+  fields_first : (v : Result (Unit {0}) Refusal) → judged q ≡ v
       → verdict_number (and_then v (verdict (room buffer ∷ []))) ≡ first_applying (applying_write q buffer)
-  fields_first Verdict.Passed e =
+  fields_first (Ok _) e =
       let none = sym (judged_number q) ∙ ap verdict_number e in
       rw (leb_ltb line_size (length buffer))
       (room_number (applies14 buffer) ∙ sym (first_after (applying_fields q) ((14, applies14 buffer) ∷ []) tt none))
-  fields_first (Verdict.Failed why) e =
+  fields_first (Err why) e =
       let here = sym (judged_number q) ∙ ap verdict_number e in
       sym (first_before (applying_fields q) ((14, applies14 buffer) ∷ []) (omega (arith, here, refusal_above why)) ∙ here)
 

@@ -1,5 +1,6 @@
 -- Reading and writing a request undo each other, and what reading accepts is exactly what writing produces; the sample of
 -- RULES 5.1, both ways. Assumes nothing.
+use Rattle.std.specs.Prelude.{Ok}
 use Prim.Native.Nat.{ℕ, ◌-◌, ◌<◌, ◌≤◌}
 use mathlib.Core.Logic.{◌↔◌}
 use mathlib.Core.Path.{◌≡◌, refl, ap, ◌∙◌, sym}
@@ -12,9 +13,8 @@ use lib.Dec.{eqb}
 use lib.ListN.{length, take, drop, get_or, replicate, take-append-drop, length-take, length-drop}
 use lib.Seq.{drop-drop, take_all}
 use Rattle.kinds.specs.Limits.{line_size}
-use Rattle.requests.specs.declared.{Request.Request, Verdict.Verdict}
+use Rattle.requests.specs.declared.Request.{Request}
 use Rattle.requests.specs.Requests.{judged}
-use Rattle.wire.specs.declared.Reading.{Reading}
 use Rattle.wire.specs.Bytes.{zeros_at, value_at, value_limit, number, low_bytes, blank, part, line_with, Bytes}
 use Rattle.wire.specs.Requests.{InRange, bytes_of, fields_of, reading_of, read_of}
 use Rattle.wire.proofs.Bytes.{bytes_take, bytes_drop, zeros_are, number_below, number_low_bytes, low_bytes_number}
@@ -26,7 +26,7 @@ unfolding bytes_of line_with
 fields_bytes q h =
     ap (λ (v : ℕ). record { step = q.step; bucket = q.bucket; clean = q.clean; value = v }) (number_low_bytes 8 q.value h)
 
-pub write_read : (q : Request) → judged q ≡ Verdict.Passed → q.value < value_limit → read_of (bytes_of q) ≡ Reading.Request q
+pub write_read : (q : Request) → judged q ≡ Ok tt → q.value < value_limit → read_of (bytes_of q) ≡ Ok q
 unfolding bytes_of line_with
 write_read q e h =
     sym (read_fields (bytes_of q) refl refl)
@@ -37,10 +37,10 @@ write_read q e h =
 pub record Accepted (l : List ℕ) (q : Request) : Type 0 where
   pub whole : length l ≡ line_size
   pub zeros : blank (part zeros_at value_at l) ≡ true
-  pub fits : judged q ≡ Verdict.Passed
+  pub fits : judged q ≡ Ok tt
   pub fields : fields_of l ≡ q
 
-pub accepted : (l : List ℕ) (q : Request) → read_of l ≡ Reading.Request q → Accepted l q
+pub accepted : (l : List ℕ) (q : Request) → read_of l ≡ Ok q → Accepted l q
 accepted l q e = go (eqb (length l) line_size) (blank (part zeros_at value_at l)) refl refl
   where
     go : (long zeros : Bool) → eqb (length l) line_size ≡ long → blank (part zeros_at value_at l) ≡ zeros → Accepted l q
@@ -88,7 +88,7 @@ module _ (l : List ℕ) (bytes : Bytes l) (whole : length l ≡ line_size) where
       ∙ ap (λ (r : List ℕ). get_or l 0 0 ∷ get_or l 1 0 ∷ get_or l 2 0 ∷ r) (sym (middle z))
       ∙ sym (first_three l (omega arith))
 
-pub read_write : (l : List ℕ) (q : Request) → Bytes l → read_of l ≡ Reading.Request q → bytes_of q ≡ l
+pub read_write : (l : List ℕ) (q : Request) → Bytes l → read_of l ≡ Ok q → bytes_of q ≡ l
 read_write l q bytes e =
     let t = accepted l q e in
     ap bytes_of (sym t.fields) ∙ bytes_fields l bytes t.whole t.zeros
@@ -105,18 +105,18 @@ in_range l bytes =
     record { step = bytes 0; bucket = bytes 1; clean = bytes 2; value = number_below 8 (take 8 last) (length_taken 8 last) eight }
 
 pub accepts_written : (l : List ℕ) → Bytes l
-    → ((q : Request) × (read_of l ≡ Reading.Request q))
-    ↔ ((q : Request) × (judged q ≡ Verdict.Passed) × InRange q × (bytes_of q ≡ l))
+    → ((q : Request) × (read_of l ≡ Ok q))
+    ↔ ((q : Request) × (judged q ≡ Ok tt) × InRange q × (bytes_of q ≡ l))
 accepts_written l bytes = (there, back)
   where
-    there : (q : Request) × (read_of l ≡ Reading.Request q)
-        → (q : Request) × (judged q ≡ Verdict.Passed) × InRange q × (bytes_of q ≡ l)
+    there : (q : Request) × (read_of l ≡ Ok q)
+        → (q : Request) × (judged q ≡ Ok tt) × InRange q × (bytes_of q ≡ l)
     there t =
         let a = accepted l t.0 t.1 in
         (t.0, a.fits, rw (← a.fields) (in_range l bytes), read_write l t.0 bytes t.1)
 
-    back : (q : Request) × (judged q ≡ Verdict.Passed) × InRange q × (bytes_of q ≡ l)
-        → (q : Request) × (read_of l ≡ Reading.Request q)
+    back : (q : Request) × (judged q ≡ Ok tt) × InRange q × (bytes_of q ≡ l)
+        → (q : Request) × (read_of l ≡ Ok q)
     back t = (t.0, rw (← t.3) (write_read t.0 t.1 t.2.value))
 
 -- ---- the sample of RULES 5.1: step 22 at bucket 1 with value 5
@@ -132,6 +132,6 @@ pub sample_written : bytes_of sample_request ≡ sample_bytes
 unfolding bytes_of line_with
 sample_written = refl
 
-pub sample_read : read_of sample_bytes ≡ Reading.Request sample_request
+pub sample_read : read_of sample_bytes ≡ Ok sample_request
 unfolding read_of
 sample_read = refl

@@ -1,11 +1,10 @@
 -- A request as sixteen bytes, and what reading and writing one answer (RULES 5.1, 5.3 and 5.4).
-use Rattle.std.specs.Prelude.{ℕ, ◌<◌, Bool, cond, ◌&&◌, List, [], ◌∷◌, ◌++◌, eqb, ltb, length, get_or}
+use Rattle.std.specs.Prelude.{ℕ, Result, Ok, Err, ◌<◌, Bool, cond, ◌&&◌, List, [], ◌∷◌, ◌++◌, eqb, ltb, length, get_or}
 use Rattle.kinds.specs.Limits.{line_size}
-use Rattle.requests.specs.declared.{Refusal.Refusal, Request.Request, Answer.Answer, Verdict.Verdict}
+use Rattle.requests.specs.declared.{Refusal.Refusal, Request.Request, Answer.Answer}
 use Rattle.requests.specs.Answers.{refusal_number}
 use Rattle.requests.specs.Premises.{verdict}
 use Rattle.requests.specs.Requests.{is_step, fields_fit, bucket_fits, formal}
-use Rattle.wire.specs.declared.Reading.{Reading}
 use Rattle.wire.specs.Bytes.{zeros_at, value_at, value_limit, number, blank, part, line_with}
 use Rattle.wire.specs.Buffers.{room, answer_for, leaves}
 
@@ -41,22 +40,22 @@ readable l =
     ∷ []
 
 -- a refusal gives no request
-abbrev pub reading_of : Request → Verdict → Reading
-reading_of q Verdict.Passed = Reading.Request q
-reading_of q (Verdict.Failed why) = Reading.Refused why
+abbrev pub reading_of : Request → Result (Unit {0}) Refusal → Result Request Refusal
+reading_of q (Ok _) = Ok q
+reading_of q (Err why) = Err why
 
 -- its number (RULES 4.1): 0 where there is a request
-abbrev pub reading_number : Reading → ℕ
-reading_number (Reading.Request q) = 0
-reading_number (Reading.Refused why) = refusal_number why
+abbrev pub reading_number : Result Request Refusal → ℕ
+reading_number (Ok q) = 0
+reading_number (Err why) = refusal_number why
 
-unfoldable pub read_of : List ℕ → Reading
+unfoldable pub read_of : List ℕ → Result Request Refusal
 read_of l = reading_of (fields_of l) (verdict (readable l))
 
 -- where bytes 3 to 7 aren't zero: the lower of 3 and what is wrong with the fields
-abbrev pub or_bad_field : Verdict → Refusal
-or_bad_field Verdict.Passed = Refusal.BadField
-or_bad_field (Verdict.Failed why) = cond (ltb (refusal_number Refusal.BadField) (refusal_number why)) Refusal.BadField why
+abbrev pub or_bad_field : Result (Unit {0}) Refusal → Refusal
+or_bad_field (Ok _) = Refusal.BadField
+or_bad_field (Err why) = cond (ltb (refusal_number Refusal.BadField) (refusal_number why)) Refusal.BadField why
 
 -- ---- writing
 -- what is asked of a request and of the buffer that it is written into: 2 to 4, then 14

@@ -1,41 +1,39 @@
 // Numbers as bytes, low byte first.
-ghost use Rattle.std.specs.Prelude.{◌≤◌, ◌≡◌, length, take};
+ghost use Rattle.std.specs.Prelude.{◌≡◌, length, take, drop, get_or};
 ghost use Rattle.wire.specs.Bytes.{number, low_bytes, blank};
-
-// The number that the bytes say, at most eight of them.
-fn read_few(bytes: &[u8]) -> u64
-    requires { length bytes.now ≤ 8 }
-    ensures { result ≡ number bytes.now }
-{
-    let mut v: u64 = 0;
-    let mut k = bytes.len();
-    while 0 < k {
-        k -= 1;
-        v = bytes[k] as u64 + 256 * v;
-    }
-    v
-}
 
 // The number that the first eight bytes say, or all of them where there are fewer.
 pub fn read_u64(bytes: &[u8]) -> u64
     ensures { result ≡ number (take 8 bytes.now) }
 {
-    if 8 < bytes.len() {
-        return read_few(&bytes[..8]);
-    }
-    read_few(bytes)
+    let mut first = [0; 8];
+    let many = bytes.len().min(8);
+    first[..many].copy_from_slice(&bytes[..many]);
+    u64::from_le_bytes(first)
+}
+
+// The byte at a place; 0 past the end.
+pub fn byte_at(bytes: &[u8], at: usize) -> u8
+    ensures { result ≡ get_or bytes.now at 0 }
+{
+    bytes.get(at).copied().unwrap_or(0)
+}
+
+// The number of the eight bytes at a place, where those past the end are 0.
+pub fn u64_at(bytes: &[u8], at: usize) -> u64
+    ensures { result ≡ number (take 8 (drop at bytes.now)) }
+{
+    bytes.get(at..).map_or(0, read_u64)
 }
 
 // Fills the bytes with the low bytes of `v`.
 pub fn write_u64(bytes: &mut [u8], v: u64)
     ensures { bytes.new ≡ low_bytes (length bytes.old) v }
 {
-    let mut x = v;
-    let mut k: usize = 0;
-    while k < bytes.len() {
-        bytes[k] = (x % 256) as u8;
-        x /= 256;
-        k += 1;
+    let mut rest = v;
+    for b in bytes {
+        *b = (rest % 256) as u8;
+        rest /= 256;
     }
 }
 
@@ -43,12 +41,5 @@ pub fn write_u64(bytes: &mut [u8], v: u64)
 pub fn is_blank(bytes: &[u8]) -> bool
     ensures { result ≡ blank bytes.now }
 {
-    let mut k: usize = 0;
-    while k < bytes.len() {
-        if bytes[k] != 0 {
-            return false;
-        }
-        k += 1;
-    }
-    true
+    bytes.iter().all(|b| *b == 0)
 }

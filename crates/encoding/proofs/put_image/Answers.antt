@@ -20,12 +20,12 @@ returns c =
     let kinds = c.copy_from_slice.ensures.after in
     let counts = c.copy_from_slice-2.ensures.after in
     by_parts c.args.page c.head_of-head.result c.copy_from_slice.new.self c.copy_from_slice-2.new.self c.put_values.new.out c.put_list.new.out
-    c.kind_bytes-kinds.result c.count_bytes-counts.result _
-    c.head_of-head.ensures kinds c.kind_bytes-kinds.ensures counts c.count_bytes-counts.ensures c.put_values.ensures c.put_list.ensures
+    c.kind_bytes.result c.count_bytes.result _
+    c.head_of-head.ensures kinds c.kind_bytes.ensures counts c.count_bytes.ensures c.put_values.ensures c.put_list.ensures
     (four_parts c.args.out.now c.copy_from_slice.new.self c.copy_from_slice-2.new.self c.put_values.new.out c.put_list.new.out
     16 32 64 whole_size
-    (ap length (kinds ∙ c.kind_bytes-kinds.ensures) ∙ length_kinds _ _)
-    (ap length (counts ∙ c.count_bytes-counts.ensures) ∙ length_counts _)
+    (ap length (kinds ∙ c.kind_bytes.ensures) ∙ length_kinds _ _)
+    (ap length (counts ∙ c.count_bytes.ensures) ∙ length_counts _)
     (ap length c.put_values.ensures ∙ length_values _)
     (ap length c.put_list.ensures ∙ length_entries capacity _)
     (omega arith) (omega arith) (omega arith) c.requires)

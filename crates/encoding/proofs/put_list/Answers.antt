@@ -1,14 +1,10 @@
 -- A turn puts the next entry (`Filling`); where all are put, none is still to come.
-use Rattle.std.proofs.Common.{◌≡◌, ℕ, List, ◌++◌, ◌*◌, ◌-◌, ◌<◌, arith, refl, ap, sym, ◌∙◌, take, drop, append-nil}
+use Rattle.std.proofs.Common.{◌≡◌, ◌*◌, ◌-◌, ◌<◌, arith, refl, sym, ◌∙◌, append-nil}
 use Rattle.std.proofs.Math.Seq.{take_all}
 use Rattle.kinds.specs.Limits.{line_size, capacity}
 use Rattle.readers.specs.Listed.{live}
-use Rattle.encoding.specs.Images.{entries}
 use Rattle.encoding.proofs.Listing.{put_length, line_turn, no_lines}
 use Rattle.encoding.proofs.put_list.Goals as goal
-
-pub loop-i-init : goal.loop-i-init
-loop-i-init c = record { most = omega arith; room = c.requires; whole = refl }
 
 pub loop-i-preserved : goal.loop-i-preserved
 loop-i-preserved c =
@@ -26,12 +22,5 @@ loop-i-preserved c =
 pub returns : goal.returns
 returns c =
     let l = c.loop-i in
-    let rs = live c.args.readers in
-    let inv = l.invariant in
     let none : capacity - l.i ≡ 0 = omega arith in
-    sym
-    (inv.whole
-    ∙ ap (λ (n : ℕ). take (line_size * l.i) l.out ++ entries n (drop l.i rs)) none
-    ∙ ap (λ (z : List ℕ). take (line_size * l.i) l.out ++ z) (no_lines (drop l.i rs))
-    ∙ append-nil (take (line_size * l.i) l.out)
-    ∙ take_all (line_size * l.i) l.out (omega arith))
+    sym (l.invariant.whole ∙ simp (none, no_lines, append-nil) (take_all (line_size * l.i) l.out (omega arith)))

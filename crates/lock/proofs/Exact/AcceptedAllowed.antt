@@ -2,6 +2,7 @@
 -- premises apart (`ran`); then each step has its constructor, line by line, in the source's order. Soundness is used wherever
 -- the source takes something for granted (Reach.antt, Granted.antt), and for `as nat`: a reader that is listed, and a holder
 -- that has a bucket, is counted. Assumes nothing.
+use Rattle.std.specs.Prelude.{Option, Some, None, Result, Ok, Err}
 use Prim.Native.Nat.{ℕ, ◌+◌, ◌-◌, ◌≤◌, ◌<◌}
 use mathlib.Core.Path.{◌≡◌, refl, sym, ap, ◌∙◌}
 use mathlib.Core.Logic.{◌≢◌}
@@ -13,8 +14,8 @@ use lib.Dec.{T, eqb, leb, ltb→lt, nleb→lt, eqb→eq}
 use lib.ListN.{length, length-set}
 use Rattle.laws.specs.Lists.{among, last_first}
 use Rattle.laws.proofs.Pick.{◌&◌, pick}
-use Rattle.kinds.specs.declared.{Bucket.Bucket, Count.Count, MaybeBucket.MaybeBucket, Storage.Storage, Phase.Phase}
-use Rattle.kinds.specs.declared.{Reader.Reader}
+use Rattle.kinds.specs.declared.{Bucket.Bucket, Count.Count, Phase.Phase}
+use Rattle.kinds.specs.declared.Reader.{Reader}
 use Rattle.kinds.specs.Limits.{buckets, ceiling, capacity}
 use Rattle.readers.specs.Listed.{find_in}
 use Rattle.page_record.specs.declared.Head.{Head}
@@ -25,7 +26,8 @@ use Rattle.page_record.proofs.Inversions.{is_claim_lem, is_await_lem, is_loading
 use Rattle.page_record.proofs.Inversions.{is_waiting_lem, is_counted_lem, no_bucket_lem}
 use Rattle.soundness.proofs.Facts.{Sound}
 use Rattle.soundness.proofs.Known.{listed_counted}
-use Rattle.requests.specs.declared.{Verdict.Verdict, Request.Request}
+use Rattle.requests.specs.declared.Request.{Request}
+use Rattle.requests.specs.declared.Refusal.{Refusal}
 use Rattle.requests.specs.Premises.{verdict, Passes}
 use Rattle.requests.specs.Requests.{past_last}
 use Rattle.requests.proofs.Verdicts.{passed}
@@ -55,7 +57,7 @@ use Rattle.lock.proofs.Reach.{lock_withdraws, alloc_withdraws, alloc_no_refcount
 use Rattle.lock.proofs.Exact.Granted.{Granted, granted, exc_within}
 
 -- ---- a holder's own bucket, and step 6's clean
-own : (b : Bucket) → ref_at (MaybeBucket.At b) b.0 ≡ 1
+own : (b : Bucket) → ref_at (Some b) b.0 ≡ 1
 own b = rw (eq-eqb b.0 b.0 refl)
 
 bit : (n : ℕ) → n ≤ 1 → n ≡ cond (eqb n 1) 1 0
@@ -79,27 +81,27 @@ module _ (h : Head) (l : List Reader) (q : Request) where
   full = leb capacity (length l)
 
   -- the transition to this state allows this to be handed out
-  abbrev Allows : Head → List Reader → Storage → Type 0
+  abbrev Allows : Head → List Reader → Option ℕ → Type 0
   Allows h' l' out = Moves (state_with h l) q (state_with h' l') out
 
   -- if a decision is no refusal, the transition allows it, and there is room
   pub record Fits (d : Decision) : Type 0 where
-    pub fits : (out : Storage) → d.answer ≡ answer_of out → Allows d.head (edited d.edit l) out × Room (state_with h l) q
+    pub fits : (out : Option ℕ) → d.answer ≡ answer_of out → Allows d.head (edited d.edit l) out × Room (state_with h l) q
 
   -- a step that is accepted has passed its premises
   ran : (st : Step) → (Passes st.premises → Room (state_with h l) q)
-      → (Passes st.premises → (out : Storage) → out ≡ handed st.answer → Allows st.head (edited st.edit l) out)
+      → (Passes st.premises → (out : Option ℕ) → out ≡ handed st.answer → Allows st.head (edited st.edit l) out)
       → Fits (decided h st)
   ran st room moves = go (verdict st.premises) refl
     where
-      go : (v : Verdict) → verdict st.premises ≡ v → Fits (settled h st v)
-      go Verdict.Passed e =
+      go : (v : Result (Unit {0}) Refusal) → verdict st.premises ≡ v → Fits (settled h st v)
+      go (Ok _) e =
           let p = passed st.premises e in
           record { fits = λ out a. (moves p out (rw a (is_handed out)), room p) }
-      go (Verdict.Failed why) e = record { fits = λ out a. absurd (unrefused why out a) }
+      go (Err why) e = record { fits = λ out a. absurd (unrefused why out a) }
 
   -- what 20, 21 and 22 have in common: where x leaves, the transition is taken
-  abbrev Leaving : Reader → RwLock → Storage → Type 0
+  abbrev Leaving : Reader → RwLock → Option ℕ → Type 0
   Leaving x post out =
       (n : ℕ) (before after : List Reader) → q.bucket.0 < buckets → count_of (state_with h l) q.bucket ≡ n
       → l ≡ before ++ x ∷ after → Absent x before → post.shared_state ≡ before ++ last_first after → 1 ≤ n
@@ -129,11 +131,11 @@ module _ (h : Head) (l : List Reader) (q : Request) where
     }
 
     -- one less at a holder's bucket, if it has one: it is counted there
-    less : (h' : Head) (m : MaybeBucket) → T (valid_bucket m)
+    less : (h' : Head) (m : Option Bucket) → T (valid_bucket m)
         → ((b : ℕ) → b < buckets → ref_at m b ≤ number_at h.ref_counts b)
         → h'.ref_counts ≡ lower_if m h.ref_counts → OneLess (state_with h l) (state_with h' l) m
-    less h' MaybeBucket.None ok refs e = e
-    less h' (MaybeBucket.At b) ok refs e =
+    less h' None ok refs e = e
+    less h' (Some b) ok refs e =
         let n = number_at h.ref_counts b.0 in
         let below : b.0 < buckets = ltb→lt b.0 buckets ok in
         record {
@@ -269,7 +271,7 @@ module _ (h : Head) (l : List Reader) (q : Request) where
 
     -- 20 to 22: the reader that is found, and the count at its bucket; `line` is the constructor, its step given
     leaves : (phase : Phase) → Room (state_with h l) q
-        → ((post : RwLock) (out : Storage) → Leaving (reader phase q.bucket) post out)
+        → ((post : RwLock) (out : Option ℕ) → Leaving (reader phase q.bucket) post out)
         → Fits (decided h (shared_dec_count h q (find_in l (reader phase q.bucket))))
     leaves phase room line = ran (shared_dec_count h q (find_in l (reader phase q.bucket))) (λ _. room) λ p out o.
         let b = q.bucket in

@@ -1,6 +1,7 @@
 -- What a transition of `Moves` allows, and the limits leave room for, is accepted (⇐): the lines of the constructor make the
 -- premises and what the step leaves compute, and its other lines say the same of `post`. Of soundness this half uses only that
 -- there are four counts, and that a holder's bucket is one of them. Assumes nothing.
+use Rattle.std.specs.Prelude.{Option, Some, None}
 use Prim.Native.Nat.{ℕ, ◌+◌, ◌-◌, ◌<◌}
 use mathlib.Core.Path.{◌≡◌, refl, sym, ap, ◌∙◌}
 use mathlib.Core.Bool.{Bool, true, false}
@@ -13,7 +14,7 @@ use lib.Seq.{set-append_seam}
 use Rattle.laws.specs.Lists.{last_first}
 use Rattle.laws.proofs.Tests.{byte_back}
 use Rattle.laws.proofs.Lists.{without_split}
-use Rattle.kinds.specs.declared.{Bucket.Bucket, MaybeBucket.MaybeBucket, Storage.Storage, Reader.Reader}
+use Rattle.kinds.specs.declared.{Bucket.Bucket, Reader.Reader}
 use Rattle.kinds.specs.declared.{ExcState.ExcState, LoadingState.LoadingState}
 use Rattle.kinds.specs.Limits.{buckets, ceiling, capacity}
 use Rattle.readers.specs.Listed.{find_in}
@@ -35,7 +36,7 @@ use Rattle.lock.proofs.Exact.Flags.{is_unclaimed, is_unawaited}
 use Rattle.lock.proofs.Exact.Granted.{granted, exc_within}
 
 -- ---- a decision's parts, one by one
-record Parts (d : Decision) (l : List Reader) (h' : Head) (l' : List Reader) (out : Storage) : Type 0 where
+record Parts (d : Decision) (l : List Reader) (h' : Head) (l' : List Reader) (out : Option ℕ) : Type 0 where
   answer : d.answer ≡ answer_of out
   storage : d.head.storage ≡ h'.storage
   flag : d.head.flag ≡ h'.flag
@@ -45,7 +46,7 @@ record Parts (d : Decision) (l : List Reader) (h' : Head) (l' : List Reader) (ou
   writeback : d.head.writeback_state ≡ h'.writeback_state
   list : edited d.edit l ≡ l'
 
-took : {d : Decision} {l : List Reader} {h' : Head} {l' : List Reader} {out : Storage}
+took : {d : Decision} {l : List Reader} {h' : Head} {l' : List Reader} {out : Option ℕ}
     → Parts d l h' l' out → Accepts d l h' l' out
 took p = record {
   answer = p.answer;
@@ -59,7 +60,7 @@ may_put true taken value same = eq-eqb value taken (same refl)
 may_put false taken value same = refl
 
 -- ---- the transitions
-module _ (h : Head) (l : List Reader) (q : Request) (h' : Head) (l' : List Reader) (out : Storage) (s : Sound h l) where
+module _ (h : Head) (l : List Reader) (q : Request) (h' : Head) (l' : List Reader) (out : Option ℕ) (s : Sound h l) where
   -- the request is decided by the step that it names
   step_is : (n : ℕ) → q.step ≡ n → Accepts (decided h (step_no h l q n)) l h' l' out → Accepts (decided_on h l q) l h' l' out
   step_is n e a = rw (by_number, e) a
@@ -78,15 +79,15 @@ module _ (h : Head) (l : List Reader) (q : Request) (h' : Head) (l' : List Reade
       one_less : count_of (state_with h' l') b ≡ n - 1 → lower b.0 h.ref_counts ≡ h'.ref_counts
       one_less e = recounted (number_at h.ref_counts b.0 - 1) (rw was e)
 
-  own_less : (m : MaybeBucket) → T (valid_bucket m) → OneLess (state_with h l) (state_with h' l') m
+  own_less : (m : Option Bucket) → T (valid_bucket m) → OneLess (state_with h l) (state_with h' l') m
       → lower_if m h.ref_counts ≡ h'.ref_counts
-  own_less MaybeBucket.None ok same = sym same
-  own_less (MaybeBucket.At b) ok fewer =
+  own_less None ok same = sym same
+  own_less (Some b) ok fewer =
       one_less b (ltb→lt b.0 buckets ok) fewer.elsewhere fewer.pre_count fewer.remove_ref_counts
       fewer.add_ref_counts
 
   -- a loader's bucket is one of the four
-  loading_valid : (m : MaybeBucket) → h.loading_state ≡ LoadingState.Obtained m → T (valid_bucket m)
+  loading_valid : (m : Option Bucket) → h.loading_state ≡ LoadingState.Obtained m → T (valid_bucket m)
   loading_valid m e =
       let t : T (is_loading h.loading_state) = rw e tt in
       rw e at ((granted h s.head).loading t).1

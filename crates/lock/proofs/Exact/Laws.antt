@@ -1,6 +1,7 @@
 -- What both halves of the theorem use: what it is to be accepted (`Accepts`); what step 7 expects, in the relation's words
 -- (`Expects`); the list taken apart at the first equal reader (`find_first`, `split`); the counts after one is set (`is_set`).
 -- The flags are in Flags.antt. Assumes nothing.
+use Rattle.std.specs.Prelude.{Option, Some, None}
 use Prim.Native.Nat.{ℕ, ◌+◌, ◌<◌}
 use mathlib.Core.Path.{◌≡◌, refl, sym, ap, ◌∙◌}
 use mathlib.Core.Logic.{◌⊎◌, inl, inr, ◌≢◌}
@@ -13,9 +14,9 @@ use lib.ListN.{length, take, drop, get_or, set, length-set}
 use lib.Seq.{ext_get_or}
 use Rattle.laws.specs.Lists.{last_first, without}
 use Rattle.laws.proofs.Tests.{both, halves, to_true, is_true}
-use Rattle.kinds.specs.declared.{Count.Count, MaybeBucket.MaybeBucket, Storage.Storage, Reader.Reader}
+use Rattle.kinds.specs.declared.{Count.Count, Reader.Reader}
+use Rattle.kinds.specs.declared.Bucket.{Bucket}
 use Rattle.kinds.specs.Limits.{capacity}
-use Rattle.readers.specs.declared.Found.{Found}
 use Rattle.readers.specs.Same.{same_reader}
 use Rattle.readers.specs.Listed.{find_in, blank_reader}
 use Rattle.readers.proofs.Equal.{same_refl, same_is}
@@ -27,7 +28,6 @@ use Rattle.page_record.specs.References.{ref_at}
 use Rattle.requests.specs.declared.{Refusal.Refusal, Answer.Answer, Request.Request}
 use Rattle.heads.specs.declared.Decision.{Decision}
 use Rattle.heads.specs.Decisions.{Step, decided, is_found, place_of}
-use Rattle.steps.specs.declared.Sought.{Sought}
 use Rattle.steps.specs.Decide.{unknown, steps, sought, decide_of, sought_of}
 use Rattle.lock.specs.Step.{edited, look_for, decided_on}
 use Rattle.lock.specs.Moves.{some, Absent, answer_of}
@@ -35,32 +35,32 @@ use Rattle.lock.proofs.Keeps.Counts.{set_there, set_others}
 
 -- ---- acceptance
 -- the decision on a list of readers accepts, hands this out, and leaves this head and this list
-pub record Accepts (d : Decision) (l : List Reader) (h' : Head) (l' : List Reader) (out : Storage) : Type 0 where
+pub record Accepts (d : Decision) (l : List Reader) (h' : Head) (l' : List Reader) (out : Option ℕ) : Type 0 where
   pub answer : d.answer ≡ answer_of out
   pub head : d.head ≡ h'
   pub list : edited d.edit l ≡ l'
 
 -- what an answer hands out
-abbrev pub handed : Answer → Storage
-handed Answer.Accepted = Storage.Out
-handed (Answer.Withdrew value) = Storage.In value
-handed (Answer.Refused why) = Storage.Out
+abbrev pub handed : Answer → Option ℕ
+handed Answer.Accepted = None
+handed (Answer.Withdrew value) = Some value
+handed (Answer.Refused why) = None
 
-pub is_handed : (out : Storage) → out ≡ handed (answer_of out)
-is_handed Storage.Out = refl
-is_handed (Storage.In v) = refl
+pub is_handed : (out : Option ℕ) → out ≡ handed (answer_of out)
+is_handed None = refl
+is_handed (Some v) = refl
 
-pub same_out : (a b : Storage) → answer_of a ≡ answer_of b → a ≡ b
+pub same_out : (a b : Option ℕ) → answer_of a ≡ answer_of b → a ≡ b
 same_out a b e = is_handed a ∙ (ap handed e ∙ sym (is_handed b))
 
 -- a refusal doesn't accept
-pub unrefused : (why : Refusal) (out : Storage) → Answer.Refused why ≡ answer_of out → ⊥
-unrefused why Storage.Out e = let z : ◌≡◌ {A = ℕ} 0 1 = cc in omega arith
-unrefused why (Storage.In v) e = let z : ◌≡◌ {A = ℕ} 0 1 = cc in omega arith
+pub unrefused : (why : Refusal) (out : Option ℕ) → Answer.Refused why ≡ answer_of out → ⊥
+unrefused why None e = let z : ◌≡◌ {A = ℕ} 0 1 = cc in omega arith
+unrefused why (Some v) e = let z : ◌≡◌ {A = ℕ} 0 1 = cc in omega arith
 
 -- the step with this number, by which a request is decided
 abbrev pub step_no : Head → List Reader → Request → ℕ → Step
-step_no h l q n = get_or (steps h q (look_for l (get_or (sought q) n Sought.Nobody)) (leb capacity (length l))) n (unknown h)
+step_no h l q n = get_or (steps h q (look_for l (get_or (sought q) n None)) (leb capacity (length l))) n (unknown h)
 
 pub by_number : (h : Head) (l : List Reader) (q : Request) → decided_on h l q ≡ decided h (step_no h l q q.step)
 unfolding decide_of sought_of
@@ -68,22 +68,22 @@ by_number h l q = refl
 
 -- ---- step 7, in the relation's words
 -- what step 7 expects at bucket n of an editor that has bucket m
-abbrev pub Expects : MaybeBucket → ℕ → ℕ → Type 0
+abbrev pub Expects : Option Bucket → ℕ → ℕ → Type 0
 Expects m n c = ((some (record { 0 = n }) ≡ m) × (c ≡ 1)) ⊎ ((some (record { 0 = n }) ≢ m) × (c ≡ 0))
 
-pub is_expected : (m : MaybeBucket) (n c : ℕ) → Expects m n c → ref_at m n ≡ c
+pub is_expected : (m : Option Bucket) (n c : ℕ) → Expects m n c → ref_at m n ≡ c
 is_expected m n c (inl p) = rw (← p.0, eq-eqb n n refl) (sym p.1)
-is_expected MaybeBucket.None n c (inr p) = sym p.1
-is_expected (MaybeBucket.At b) n c (inr p) =
+is_expected None n c (inr p) = sym p.1
+is_expected (Some b) n c (inr p) =
     rw (ne_eqb b.0 n (λ e. p.0 (ap (λ (x : ℕ). some (record { 0 = x })) (sym e)))) (sym p.1)
 
-pub expected : (m : MaybeBucket) (n : ℕ) → Expects m n (ref_at m n)
-expected MaybeBucket.None n = inr ((λ e. let z : ◌≡◌ {A = ℕ} 0 1 = cc in omega arith), refl)
-expected (MaybeBucket.At b) n = go (eqb b.0 n) refl
+pub expected : (m : Option Bucket) (n : ℕ) → Expects m n (ref_at m n)
+expected None n = inr ((λ e. let z : ◌≡◌ {A = ℕ} 0 1 = cc in omega arith), refl)
+expected (Some b) n = go (eqb b.0 n) refl
   where
     go : (t : Bool) → eqb b.0 n ≡ t → Expects (some b) n (cond t 1 0)
     go true e = inl (ap (λ (x : ℕ). some (record { 0 = x })) (sym (eqb-true b.0 n e)), refl)
-    go false e = inr ((λ p. eqb-false b.0 n e (ap (λ (x : MaybeBucket). (bucket_of x).0) (sym p))), refl)
+    go false e = inr ((λ p. eqb-false b.0 n e (ap (λ (x : Option Bucket). (bucket_of x).0) (sym p))), refl)
 
 -- ---- the list taken apart at the first equal reader
 module _ (x : Reader) where
@@ -102,7 +102,7 @@ module _ (x : Reader) where
       ((λ e. rw (e, to_true (same_reader x x) (same_refl x)) at h.0), is_absent l h.1)
 
   -- it is found where the list splits
-  pub find_first : (before after : List Reader) → Absent x before → find_in (before ++ x ∷ after) x ≡ Found.At (length before)
+  pub find_first : (before after : List Reader) → Absent x before → find_in (before ++ x ∷ after) x ≡ Some (length before)
   find_first before after a = find_split x before after (absent_is before a)
 
 -- the list at the place at which it is found: what removing it, or putting another in its place, leaves
@@ -119,9 +119,9 @@ pub record Split (x : Reader) (l : List Reader) (i : ℕ) : Type 0 where
 pub split : (l : List Reader) (x : Reader) → T (is_found (find_in l x)) → Split x l (place_of (find_in l x))
 split l x = go (find_in l x) refl
   where
-    go : (o : Found) → find_in l x ≡ o → T (is_found o) → Split x l (place_of o)
-    go Found.Nowhere e t = absurd t
-    go (Found.At i) e t =
+    go : (o : Option ℕ) → find_in l x ≡ o → T (is_found o) → Split x l (place_of o)
+    go None e t = absurd t
+    go (Some i) e t =
         let f = found x l i e in
         let whole = split_of_found x l i e in
         let there = ap (λ (m : List Reader). find_in m x) (sym whole) ∙ e in

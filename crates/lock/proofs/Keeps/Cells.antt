@@ -2,6 +2,7 @@
 -- hold; where one fails nothing changes (`settle`). A row lists the steps that may be accepted with their cells, and that
 -- every other step fails one of its premises is computed (`others`); `cell_of` then gives the cell of any number.
 -- Assumes nothing.
+use Rattle.std.specs.Prelude.{Option, Some, None, Err}
 use Prim.Native.Nat.{ℕ}
 use mathlib.Core.Path.{◌≡◌, refl, sym, subst}
 use mathlib.Core.Bool.{Bool, true, false, cond, ◌||◌}
@@ -13,18 +14,16 @@ use Rattle.laws.specs.Lists.{among}
 use Rattle.laws.proofs.Tests.{is_true}
 use Rattle.laws.proofs.Pick.{each_below, each_below_lem}
 use Rattle.kinds.specs.declared.Reader.{Reader}
-use Rattle.readers.specs.declared.Found.{Found}
 use Rattle.readers.specs.Listed.{find_in}
 use Rattle.readers.proofs.First.{First, found}
 use Rattle.page_record.specs.declared.Head.{Head}
 use Rattle.soundness.proofs.Facts.{Sound}
-use Rattle.requests.specs.declared.{Refusal.Refusal, Verdict.Verdict, Request.Request}
+use Rattle.requests.specs.declared.{Refusal.Refusal, Request.Request}
 use Rattle.requests.specs.Premises.{verdict, Passes}
 use Rattle.requests.specs.Requests.{past_last}
 use Rattle.requests.proofs.Verdicts.{fails, fails_not}
 use Rattle.heads.specs.declared.Decision.{Decision}
 use Rattle.heads.specs.Decisions.{Step, settled, is_found, place_of}
-use Rattle.steps.specs.declared.Sought.{Sought}
 use Rattle.steps.specs.Decide.{unknown, steps, sought}
 use Rattle.lock.specs.Step.{edited, look_for}
 
@@ -41,7 +40,7 @@ settle h l st (c ∷ cs) s k = go c.1 k (settle h l st cs s)
   where
     go : (t : Bool) → (T t × Passes cs → Sound st.head (edited st.edit l))
         → ((Passes cs → Sound st.head (edited st.edit l)) → Kept l (settled h st (verdict cs)))
-        → Kept l (settled h st (cond t (verdict cs) (Verdict.Failed c.0)))
+        → Kept l (settled h st (cond t (verdict cs) (Err c.0)))
     go true k rest = rest (λ p. k (tt, p))
     go false k rest = record { sound = s }
 
@@ -50,28 +49,28 @@ settle h l st (c ∷ cs) s k = go c.1 k (settle h l st cs s)
 pub found_first : (l : List Reader) (x : Reader) → T (is_found (find_in l x)) → First l x (place_of (find_in l x))
 found_first l x = go (find_in l x) refl
   where
-    go : (o : Found) → find_in l x ≡ o → T (is_found o) → First l x (place_of o)
-    go (Found.At i) e t = found x l i e
-    go Found.Nowhere e t = absurd t
+    go : (o : Option ℕ) → find_in l x ≡ o → T (is_found o) → First l x (place_of o)
+    go (Some i) e t = found x l i e
+    go None e t = absurd t
 
-abbrev pub Finds : List Reader → Found → Sought → Type 0
-Finds l found Sought.Nobody = Unit {0}
-Finds l found (Sought.One x) = T (is_found found) → First l x (place_of found)
+abbrev pub Finds : List Reader → Option ℕ → Option Reader → Type 0
+Finds l found None = Unit {0}
+Finds l found (Some x) = T (is_found found) → First l x (place_of found)
 
-pub finds : (l : List Reader) (x : Sought) → Finds l (look_for l x) x
+pub finds : (l : List Reader) (x : Option Reader) → Finds l (look_for l x) x
 unfolding look_for
-finds l Sought.Nobody = tt
-finds l (Sought.One x) = found_first l x
+finds l None = tt
+finds l (Some x) = found_first l x
 
 -- ---- a row
-module _ (l : List Reader) (q : Request) (found : Found) (full : Bool) where
+module _ (l : List Reader) (q : Request) (found : Option ℕ) (full : Bool) where
   -- the step of a number
   abbrev pub numbered : Head → ℕ → Step
   numbered h n = get_or (steps h q found full) n (unknown h)
 
   abbrev pub Cell : Head → ℕ → Type 0
   Cell h n =
-      Finds l found (get_or (sought q) n Sought.Nobody) → Passes (numbered h n).premises
+      Finds l found (get_or (sought q) n None) → Passes (numbered h n).premises
       → Sound (numbered h n).head (edited (numbered h n).edit l)
 
   abbrev pub Cells : Head → List ℕ → Type 0

@@ -1,6 +1,7 @@
 -- Rule 5 apart from who holds what: the counts agree with a number of references for each bucket. They still do where these
 -- stay the same, where one comes and its count is raised, and where one goes and its count is lowered; or where a holder goes, and
 -- one is taken off its bucket, if it has one. Assumes nothing.
+use Rattle.std.specs.Prelude.{Option, Some, None}
 use Prim.Native.Nat.{ℕ, ◌+◌, ◌-◌, ◌≤◌, ◌<◌}
 use mathlib.Core.Path.{◌≡◌, refl, sym, ap}
 use mathlib.Core.Bool.{Bool, true, false, cond}
@@ -10,7 +11,8 @@ use borrow.Author.Tests.{eqb-true, eqb-false, eq-eqb}
 use lib.Dec.{T, eqb, ltb→lt}
 use lib.ListN.{length, length-set}
 use lib.Seq.{get_or-set_same, get_or-set_other}
-use Rattle.kinds.specs.declared.{Count.Count, MaybeBucket.MaybeBucket}
+use Rattle.kinds.specs.declared.Count.{Count}
+use Rattle.kinds.specs.declared.Bucket.{Bucket}
 use Rattle.kinds.specs.Limits.{buckets, ceiling}
 use Rattle.page_record.specs.Holders.{valid_bucket}
 use Rattle.page_record.specs.Pages.{number_at}
@@ -85,7 +87,7 @@ module _ {cs : List Count} {refs : ℕ → ℕ} (c : Counts cs refs) {refs' : �
         }
 
 -- a holder with bucket m goes
-pub left_counts : {cs : List Count} {refs refs' : ℕ → ℕ} → Counts cs refs → (m : MaybeBucket) → T (valid_bucket m)
+pub left_counts : {cs : List Count} {refs refs' : ℕ → ℕ} → Counts cs refs → (m : Option Bucket) → T (valid_bucket m)
     → ((b : ℕ) → refs' b + ref_at m b ≡ refs b) → Counts (lower_if m cs) refs'
-left_counts c MaybeBucket.None ok e = same_counts c (λ b. omega (arith, e b))
-left_counts c (MaybeBucket.At a) ok e = lowered_counts c a.0 (ltb→lt a.0 buckets ok) e
+left_counts c None ok e = same_counts c (λ b. omega (arith, e b))
+left_counts c (Some a) ok e = lowered_counts c a.0 (ltb→lt a.0 buckets ok) e

@@ -1,5 +1,6 @@
 -- Every step from every sound shape, as one table: a row is a shape, with the steps that may be accepted there and where each
 -- leads. `keeps` reads it: what is decided on a sound head and list leaves them sound. Assumes nothing.
+use Rattle.std.specs.Prelude.{Option, Some, None}
 use Prim.Native.Nat.{ℕ, ◌+◌, ◌≤◌, ◌<◌, zero-le}
 use mathlib.Core.Path.{◌≡◌, refl}
 use mathlib.Core.Logic.{◌≢◌}
@@ -13,11 +14,10 @@ use Rattle.laws.specs.Lists.{among, without}
 use Rattle.laws.proofs.Tests.{to_false, both, halves, and_iff}
 use Rattle.laws.proofs.Lists.{every_mono, every_both, tally_none, tally_push}
 use Rattle.laws.proofs.Pick.{◌&◌, each_below}
-use Rattle.kinds.specs.declared.{Bucket.Bucket, Visited.Visited, Count.Count, MaybeBucket.MaybeBucket, Phase.Phase}
-use Rattle.kinds.specs.declared.{Reader.Reader}
+use Rattle.kinds.specs.declared.{Bucket.Bucket, Visited.Visited, Count.Count, Phase.Phase}
+use Rattle.kinds.specs.declared.Reader.{Reader}
 use Rattle.kinds.specs.Limits.{buckets, capacity, ceiling}
 use Rattle.kinds.specs.Flags.{is_unmapped, lock_flag}
-use Rattle.readers.specs.declared.Found.{Found}
 use Rattle.readers.specs.Listed.{is_at, count_at}
 use Rattle.readers.proofs.First.{First}
 use Rattle.page_record.specs.declared.Head.{Head}
@@ -49,7 +49,7 @@ lock_mapped : (clean : Bool) → T (not (is_unmapped (lock_flag clean)))
 lock_mapped true = tt
 lock_mapped false = tt
 
-locks : (m : MaybeBucket) (v : ℕ) (clean : Bool) (cs : List Count)
+locks : (m : Option Bucket) (v : ℕ) (clean : Bool) (cs : List Count)
     → Stay (head_at (await m v) cs) (head_at (pending m (record { 0 = 0 }) clean v) cs)
 locks m v clean cs =
     stays (head_at (await m v) cs) (head_at (pending m (record { 0 = 0 }) clean v) cs)
@@ -62,7 +62,7 @@ behind n b t u =
     let d : b ≢ n = eqb-false b n (to_false (eqb b n) u) in
     le→leb (n + 1) b (omega arith)
 
-module _ (m : MaybeBucket) (n : Visited) (clean : Bool) (v : ℕ) (cs : List Count) where
+module _ (m : Option Bucket) (n : Visited) (clean : Bool) (v : ℕ) (cs : List Count) where
   abbrev next : Shape
   next = pending m (record { 0 = n.0 + 1 }) clean v
 
@@ -91,18 +91,18 @@ module _ (m : MaybeBucket) (n : Visited) (clean : Bool) (v : ℕ) (cs : List Cou
       s.room (counts_of s)
 
 -- 28: with a claim alone, whoever is past the first check may stay
-reopens : (m : MaybeBucket) (n : Visited) (clean : Bool) (v : ℕ) (cs : List Count)
+reopens : (m : Option Bucket) (n : Visited) (clean : Bool) (v : ℕ) (cs : List Count)
     → Stay (head_at (pending m n clean v) cs) (head_at (claimed m v) cs)
 reopens m n clean v cs =
     stays (head_at (pending m n clean v) cs) (head_at (claimed m v) cs)
     (λ b k. record { pass = λ t. tt; hold = λ u t x y. (x, y) })
 
 -- 16 and 17: with the loader gone, whoever is past the first check may stay
-opens : (m : MaybeBucket) (v : ℕ) (cs cs' : List Count) → Stay (head_at (loading m) cs) (head_at (available v) cs')
+opens : (m : Option Bucket) (v : ℕ) (cs cs' : List Count) → Stay (head_at (loading m) cs) (head_at (available v) cs')
 opens m v cs cs' =
     stays (head_at (loading m) cs) (head_at (available v) cs') (λ b k. record { pass = λ t. tt; hold = λ u t x. absurd x })
 
-module _ (l : List Reader) (q : Request) (inside : q.bucket.0 < buckets) (found : Found) (full : Bool)
+module _ (l : List Reader) (q : Request) (inside : q.bucket.0 < buckets) (found : Option ℕ) (full : Bool)
     (room : T (not full) → length l < capacity) where
   -- ---- what cells share
   near : T (ltb q.bucket.0 buckets)
@@ -156,7 +156,7 @@ module _ (l : List Reader) (q : Request) (inside : q.bucket.0 < buckets) (found 
     numbers = 11 ∷ 12 ∷ reader_steps;
     cells =
         (λ _ _. kept_quiet s (shaped waiting cs tt) (λ b k t. t) (counts_of s))
-        & (λ _ _. kept_quiet s (shaped (loading MaybeBucket.None) cs tt) (λ b k t. t) (counts_of s))
+        & (λ _ _. kept_quiet s (shaped (loading None) cs tt) (λ b k t. t) (counts_of s))
         & any s;
     others = tt;
   }
@@ -167,33 +167,33 @@ module _ (l : List Reader) (q : Request) (inside : q.bucket.0 < buckets) (found 
         (λ _ p.
         kept s (shaped (counted q.bucket) (raise q.bucket.0 cs) near) (λ r t. t)
         (more (counts_of s) p.1.0 (λ b. omega arith)))
-        & (λ _ _. kept_quiet s (shaped (loading MaybeBucket.None) cs tt) (λ b k t. t) (counts_of s))
+        & (λ _ _. kept_quiet s (shaped (loading None) cs tt) (λ b k t. t) (counts_of s))
         & any s;
     others = tt;
   }
   -- 14 to loading
   table (counted b) cs s ok = record {
     numbers = 14 ∷ reader_steps;
-    cells = (λ _ _. kept_quiet s (shaped (loading (MaybeBucket.At b)) cs ok) (λ b k t. t) (counts_of s)) & any s;
+    cells = (λ _ _. kept_quiet s (shaped (loading (Some b)) cs ok) (λ b k t. t) (counts_of s)) & any s;
     others = tt;
   }
   -- 17 to available
-  table (loading MaybeBucket.None) cs s ok = record {
+  table (loading None) cs s ok = record {
     numbers = 17 ∷ reader_steps;
     cells =
-        (λ _ _. kept s (shaped (available q.value) cs tt) (opens MaybeBucket.None q.value cs cs) (counts_of s)) & any s;
+        (λ _ _. kept s (shaped (available q.value) cs tt) (opens None q.value cs cs) (counts_of s)) & any s;
     others = tt;
   }
   -- 16 and 17 to available
-  table (loading (MaybeBucket.At b)) cs s ok = record {
+  table (loading (Some b)) cs s ok = record {
     numbers = 16 ∷ 17 ∷ reader_steps;
     cells =
         (λ _ p.
-        gives q.value b s (shaped (available q.value) cs tt) (opens (MaybeBucket.At b) q.value cs cs) ok
+        gives q.value b s (shaped (available q.value) cs tt) (opens (Some b) q.value cs cs) ok
         (own_value q.value) p.1.1.0 refl (λ x. omega arith))
         & (λ _ _.
-        kept s (shaped (available q.value) (lower b.0 cs) tt) (opens (MaybeBucket.At b) q.value cs (lower b.0 cs))
-        (left_counts (counts_of s) (MaybeBucket.At b) ok (λ x. omega arith)))
+        kept s (shaped (available q.value) (lower b.0 cs) tt) (opens (Some b) q.value cs (lower b.0 cs))
+        (left_counts (counts_of s) (Some b) ok (λ x. omega arith)))
         & any s;
     others = tt;
   }
@@ -202,32 +202,32 @@ module _ (l : List Reader) (q : Request) (inside : q.bucket.0 < buckets) (found 
     numbers = 1 ∷ 3 ∷ 4 ∷ reader_steps;
     cells =
         (λ _ _. kept s (shaped (writeback v) cs tt) (λ r t. t) (counts_of s))
-        & (λ _ _. kept s (shaped (claimed MaybeBucket.None v) cs tt) (λ r t. t) (counts_of s))
+        & (λ _ _. kept s (shaped (claimed None v) cs tt) (λ r t. t) (counts_of s))
         & (λ f p.
         let first = f p.1.0 in
         let e = eqb→eq v q.value (held s first) in
-        removed s (rw e (shaped (claimed (MaybeBucket.At q.bucket) q.value) cs near)) (λ r t. t)
+        removed s (rw e (shaped (claimed (Some q.bucket) q.value) cs near)) (λ r t. t)
         (place_of found) first.inside (same_counts (counts_of s) (λ b. omega (arith, gone first b))))
         & any s;
     others = tt;
   }
   -- 5 to await, 25 to available
-  table (claimed MaybeBucket.None v) cs s ok = record {
+  table (claimed None v) cs s ok = record {
     numbers = 5 ∷ 25 ∷ reader_steps;
     cells =
-        (λ _ _. kept s (shaped (await MaybeBucket.None v) cs ok) (λ r t. t) (counts_of s))
+        (λ _ _. kept s (shaped (await None v) cs ok) (λ r t. t) (counts_of s))
         & (λ _ _. kept s (shaped (available v) cs tt) (λ r t. t) (counts_of s))
         & any s;
     others = tt;
   }
   -- 5 to await, 25 and 26 to available
-  table (claimed (MaybeBucket.At b) v) cs s ok = record {
+  table (claimed (Some b) v) cs s ok = record {
     numbers = 5 ∷ 25 ∷ 26 ∷ reader_steps;
     cells =
-        (λ _ _. kept s (shaped (await (MaybeBucket.At b) v) cs ok) (λ r t. t) (counts_of s))
+        (λ _ _. kept s (shaped (await (Some b) v) cs ok) (λ r t. t) (counts_of s))
         & (λ _ _.
         kept s (shaped (available v) (lower b.0 cs) tt) (λ r t. t)
-        (left_counts (counts_of s) (MaybeBucket.At b) ok (λ x. omega arith)))
+        (left_counts (counts_of s) (Some b) ok (λ x. omega arith)))
         & (λ _ p.
         gives v b s (shaped (available v) cs tt) (λ r t. t) ok (own_value v) p.1.1.0 refl (λ x. omega arith))
         & any s;
@@ -238,34 +238,34 @@ module _ (l : List Reader) (q : Request) (inside : q.bucket.0 < buckets) (found 
     numbers = 2 ∷ 3 ∷ 4 ∷ reader_steps;
     cells =
         (λ _ _. kept s (shaped (available v) cs tt) (λ r t. t) (counts_of s))
-        & (λ _ _. kept s (shaped (writeback_claimed MaybeBucket.None v) cs tt) (λ r t. t) (counts_of s))
+        & (λ _ _. kept s (shaped (writeback_claimed None v) cs tt) (λ r t. t) (counts_of s))
         & (λ f p.
         let first = f p.1.0 in
         let e = eqb→eq v q.value (held s first) in
-        removed s (rw e (shaped (writeback_claimed (MaybeBucket.At q.bucket) q.value) cs near)) (λ r t. t)
+        removed s (rw e (shaped (writeback_claimed (Some q.bucket) q.value) cs near)) (λ r t. t)
         (place_of found) first.inside (same_counts (counts_of s) (λ b. omega (arith, gone first b))))
         & any s;
     others = tt;
   }
   -- 2 to claimed, 5 to writeback_await, 25 to writeback
-  table (writeback_claimed MaybeBucket.None v) cs s ok = record {
+  table (writeback_claimed None v) cs s ok = record {
     numbers = 2 ∷ 5 ∷ 25 ∷ reader_steps;
     cells =
-        (λ _ _. kept s (shaped (claimed MaybeBucket.None v) cs ok) (λ r t. t) (counts_of s))
-        & (λ _ _. kept s (shaped (writeback_await MaybeBucket.None v) cs ok) (λ r t. t) (counts_of s))
+        (λ _ _. kept s (shaped (claimed None v) cs ok) (λ r t. t) (counts_of s))
+        & (λ _ _. kept s (shaped (writeback_await None v) cs ok) (λ r t. t) (counts_of s))
         & (λ _ _. kept s (shaped (writeback v) cs tt) (λ r t. t) (counts_of s))
         & any s;
     others = tt;
   }
   -- 2 to claimed, 5 to writeback_await, 25 and 26 to writeback
-  table (writeback_claimed (MaybeBucket.At b) v) cs s ok = record {
+  table (writeback_claimed (Some b) v) cs s ok = record {
     numbers = 2 ∷ 5 ∷ 25 ∷ 26 ∷ reader_steps;
     cells =
-        (λ _ _. kept s (shaped (claimed (MaybeBucket.At b) v) cs ok) (λ r t. t) (counts_of s))
-        & (λ _ _. kept s (shaped (writeback_await (MaybeBucket.At b) v) cs ok) (λ r t. t) (counts_of s))
+        (λ _ _. kept s (shaped (claimed (Some b) v) cs ok) (λ r t. t) (counts_of s))
+        & (λ _ _. kept s (shaped (writeback_await (Some b) v) cs ok) (λ r t. t) (counts_of s))
         & (λ _ _.
         kept s (shaped (writeback v) (lower b.0 cs) tt) (λ r t. t)
-        (left_counts (counts_of s) (MaybeBucket.At b) ok (λ x. omega arith)))
+        (left_counts (counts_of s) (Some b) ok (λ x. omega arith)))
         & (λ _ p.
         gives v b s (shaped (writeback v) cs tt) (λ r t. t) ok (own_value v) p.1.1.0 refl (λ x. omega arith))
         & any s;
@@ -307,34 +307,34 @@ module _ (l : List Reader) (q : Request) (inside : q.bucket.0 < buckets) (found 
     others = elim clean as (λ k. Others (7 ∷ 8 ∷ 28 ∷ reader_steps) (head_at (pending m n k v) cs)) [ true ↦ tt | false ↦ tt ];
   }
   -- 18 to editing with a bucket, 29 to available, 30 to unmapped
-  table (editing MaybeBucket.None clean v) cs s ok = record {
+  table (editing None clean v) cs s ok = record {
     numbers = 18 ∷ 29 ∷ 30 ∷ reader_steps;
     cells =
         (λ _ p.
-        kept s (shaped (editing (MaybeBucket.At q.bucket) clean v) (raise q.bucket.0 cs) near) (λ r t. t)
+        kept s (shaped (editing (Some q.bucket) clean v) (raise q.bucket.0 cs) near) (λ r t. t)
         (more (counts_of s) p.1.1.0 (λ b. omega arith)))
         & (λ _ _. kept_quiet s (shaped (available q.value) cs tt) (λ b k t. t) (counts_of s))
         & (λ _ _. kept_quiet s (shaped (unmapped q.value) cs tt) (λ b k t. t) (counts_of s))
         & any s;
-    others = elim clean as (λ k. Others (18 ∷ 29 ∷ 30 ∷ reader_steps) (head_at (editing MaybeBucket.None k v) cs)) [ true ↦ tt | false ↦ tt ];
+    others = elim clean as (λ k. Others (18 ∷ 29 ∷ 30 ∷ reader_steps) (head_at (editing None k v) cs)) [ true ↦ tt | false ↦ tt ];
   }
   -- 9 to available, 10 to claimed, 29 to available, 30 to unmapped
-  table (editing (MaybeBucket.At b) clean v) cs s ok = record {
+  table (editing (Some b) clean v) cs s ok = record {
     numbers = 9 ∷ 10 ∷ 29 ∷ 30 ∷ reader_steps;
     cells =
         (λ _ p.
         gives q.value b s (shaped (available q.value) cs tt)
-        (quiet (head_at (editing (MaybeBucket.At b) clean v) cs) (head_at (available q.value) cs) (λ b k t. t))
+        (quiet (head_at (editing (Some b) clean v) cs) (head_at (available q.value) cs) (λ b k t. t))
         ok (own_value q.value) p.1.1.0 refl (λ x. omega arith))
-        & (λ _ _. kept_quiet s (shaped (claimed (MaybeBucket.At b) q.value) cs ok) (λ b k t. t) (counts_of s))
+        & (λ _ _. kept_quiet s (shaped (claimed (Some b) q.value) cs ok) (λ b k t. t) (counts_of s))
         & (λ _ _.
         kept_quiet s (shaped (available q.value) (lower b.0 cs) tt) (λ b k t. t)
-        (left_counts (counts_of s) (MaybeBucket.At b) ok (λ x. omega arith)))
+        (left_counts (counts_of s) (Some b) ok (λ x. omega arith)))
         & (λ _ _.
         kept_quiet s (shaped (unmapped q.value) (lower b.0 cs) tt) (λ b k t. t)
-        (left_counts (counts_of s) (MaybeBucket.At b) ok (λ x. omega arith)))
+        (left_counts (counts_of s) (Some b) ok (λ x. omega arith)))
         & any s;
-    others = elim clean as (λ k. Others (9 ∷ 10 ∷ 29 ∷ 30 ∷ reader_steps) (head_at (editing (MaybeBucket.At b) k v) cs)) [ true ↦ tt | false ↦ tt ];
+    others = elim clean as (λ k. Others (9 ∷ 10 ∷ 29 ∷ 30 ∷ reader_steps) (head_at (editing (Some b) k v) cs)) [ true ↦ tt | false ↦ tt ];
   }
 
 -- ---- the theorem

@@ -1,5 +1,6 @@
 -- The steps of readers, 19 to 24, from any sound head: the head's rules stay, one reader comes, goes or changes its phase, and
 -- the count at its bucket follows. Assumes nothing.
+use Rattle.std.specs.Prelude.{Option}
 use Prim.Native.Nat.{ℕ, ◌<◌}
 use mathlib.Core.Path.{refl}
 use mathlib.Core.Bool.{Bool, true, not}
@@ -14,7 +15,6 @@ use Rattle.laws.proofs.Pick.{◌&◌}
 use Rattle.kinds.specs.declared.{Phase.Phase, Reader.Reader}
 use Rattle.kinds.specs.Limits.{buckets, capacity, ceiling}
 use Rattle.kinds.specs.Flags.{not_loading}
-use Rattle.readers.specs.declared.Found.{Found}
 use Rattle.readers.specs.Listed.{is_at}
 use Rattle.readers.proofs.First.{First}
 use Rattle.page_record.specs.declared.Head.{Head}
@@ -33,7 +33,7 @@ use Rattle.lock.proofs.Keeps.Cells.{Cell, Cells}
 abbrev pub reader_steps : List ℕ
 reader_steps = 19 ∷ 20 ∷ 21 ∷ 22 ∷ 23 ∷ 24 ∷ []
 
-module _ (l : List Reader) (q : Request) (inside : q.bucket.0 < buckets) (found : Found) (full : Bool)
+module _ (l : List Reader) (q : Request) (inside : q.bucket.0 < buckets) (found : Option ℕ) (full : Bool)
     (room : T (not full) → length l < capacity) (h : Head) (s : Sound h l) where
   near : T (ltb q.bucket.0 buckets)
   near = lt→ltb q.bucket.0 buckets inside

@@ -1,5 +1,6 @@
 -- The number that a decided step answers is the first of its premises' numbers that applies (`decided_number`). The numbers 5 to
 -- 11 and 17 in the words of RULES 4.1 come to the same (`premised_tabled`). Assumes nothing.
+use Rattle.std.specs.Prelude.{Option, Result, Ok, Err}
 use Prim.Native.Nat.{ℕ}
 use mathlib.Core.Path.{◌≡◌, refl, ◌∙◌}
 use mathlib.Core.Bool.{Bool, true, false, not, ◌&&◌}
@@ -7,9 +8,8 @@ use mathlib.Core.List.{[], ◌∷◌}
 use lib.Dec.{eqb, eqb→eq}
 use Rattle.laws.specs.Tables.{first_applying}
 use Rattle.laws.proofs.Lists.{every_default}
-use Rattle.readers.specs.declared.Found.{Found}
 use Rattle.page_record.specs.declared.Head.{Head}
-use Rattle.requests.specs.declared.{Refusal.Refusal, Verdict.Verdict, Request.Request}
+use Rattle.requests.specs.declared.{Refusal.Refusal, Request.Request}
 use Rattle.requests.specs.Answers.{answer_number, verdict_number}
 use Rattle.requests.specs.Premises.{verdict}
 use Rattle.requests.proofs.Verdicts.{failing, verdict_number_lem}
@@ -17,7 +17,7 @@ use Rattle.heads.specs.Decisions.{Step, settled}
 use Rattle.steps.specs.Decide.{unknown, steps, step_at, decide_of}
 
 -- a step never answers with a refusal of its own, so what is answered is its premises' number
-module _ (h : Head) (q : Request) (found : Found) (full : Bool) where
+module _ (h : Head) (q : Request) (found : Option ℕ) (full : Bool) where
   abbrev accepting : Step → Bool
   accepting st = eqb (answer_number st.answer) 0
 
@@ -28,9 +28,9 @@ module _ (h : Head) (q : Request) (found : Found) (full : Bool) where
   unfolding decide_of
   decided_number = go (verdict (step_at h q found full).premises) ∙ verdict_number_lem (step_at h q found full).premises
     where
-      go : (v : Verdict) → answer_number (settled h (step_at h q found full) v).answer ≡ verdict_number v
-      go Verdict.Passed = accepts_all
-      go (Verdict.Failed why) = refl
+      go : (v : Result (Unit {0}) Refusal) → answer_number (settled h (step_at h q found full) v).answer ≡ verdict_number v
+      go (Ok _) = accepts_all
+      go (Err why) = refl
 
 -- ---- the numbers 5 to 11 and 17
 -- as premises of a step: a premise that it doesn't have holds

@@ -2,6 +2,7 @@
 -- the step that a request names. A reader is found just if the table finds it listed (`found_listed`), a flag's test
 -- is the table's list of flags (`available_lets` and the like), and soundness keeps counts, visited number and length within
 -- their limits (`bounds`). Assumes nothing.
+use Rattle.std.specs.Prelude.{Option, Some, None}
 use Prim.Native.Nat.{ℕ, ◌≤◌}
 use mathlib.Core.Path.{◌≡◌, refl, sym, ap, ◌∙◌}
 use mathlib.Core.Bool.{Bool, true, false, not, ◌&&◌, not-not}
@@ -16,7 +17,7 @@ use Rattle.laws.proofs.Orders.{limit_not_below, limit_reached}
 use Rattle.kinds.specs.declared.{Bucket.Bucket, Flag.Flag, Phase.Phase, Reader.Reader}
 use Rattle.kinds.specs.Limits.{buckets, capacity, ceiling}
 use Rattle.kinds.specs.Flags.{is_available, claimable, writeback_done, is_unmapped, open_to_readers, not_loading}
-use Rattle.readers.specs.declared.{Found.Found, Readers.Readers}
+use Rattle.readers.specs.declared.Readers.{Readers}
 use Rattle.readers.specs.Listed.{live, find_in}
 use Rattle.readers.proofs.First.{absent, nowhere, find_none}
 use Rattle.page_record.specs.declared.Page.{Page}
@@ -58,10 +59,10 @@ bounds p sound =
 found_listed : (l : List Reader) (x : Reader) → is_found (find_in l x) ≡ not (absent x l)
 found_listed l x = go (absent x l) refl (find_in l x) refl
   where
-    go : (t : Bool) → absent x l ≡ t → (o : Found) → find_in l x ≡ o → is_found o ≡ not t
+    go : (t : Bool) → absent x l ≡ t → (o : Option ℕ) → find_in l x ≡ o → is_found o ≡ not t
     go true a o e = ap is_found (sym e ∙ find_none x l (is_true a))
-    go false a Found.Nowhere e = absurd (rw a at (nowhere x l e))
-    go false a (Found.At i) e = refl
+    go false a None e = absurd (rw a at (nowhere x l e))
+    go false a (Some i) e = refl
 
 -- ---- a flag's test is the table's list of flags
 by_flag : (P : Flag → Type 0)

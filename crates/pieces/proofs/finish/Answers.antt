@@ -1,17 +1,17 @@
--- Each return, by its test.
-use Rattle.std.proofs.Common.{◌≡◌, Bool, true, false, ◌&&◌, nat_eq, sym, ap, ◌∙◌}
-use Rattle.pieces.specs.declared.Carry.{Carry}
-use Rattle.pieces.specs.Carries.{is_valid, is_empty}
+-- Each return, by its tests.
+use Rattle.std.proofs.Common.{true, false, sym, ◌∙◌}
+use borrow.Author.Tests.{eq-eqb, ne_eqb}
 use Rattle.pieces.proofs.Carries.{finish_is}
+use Rattle.pieces.proofs.finish.Goals.{else-carry-eq0-via-then-carry-eq0+else-is_valid, else-carry-eq0-via-else-carry-eq0}
 use Rattle.pieces.proofs.finish.Goals as goal
 
--- what the test is of the carry
-tested : (carry : Carry) (valid : Bool) → valid ≡ is_valid carry → (nat_eq carry.len 0 && valid) ≡ is_empty carry
-tested carry valid e = ap (λ (t : Bool). nat_eq carry.len 0 && t) e
-
-pub returns-then-carry-is_valid : goal.returns-then-carry-is_valid
-returns-then-carry-is_valid c =
-    finish_is c.args.carry true (sym (tested c.args.carry _ c.is_valid.ensures) ∙ c.if-carry-is_valid.true)
+pub returns-then-is_valid : goal.returns-then-is_valid
+returns-then-is_valid c = finish_is c.args.carry true (simp (eq-eqb _ _ c.if-carry-eq0.true, sym c.is_valid.ensures ∙ c.if-is_valid.true))
 
 pub returns : goal.returns
-returns c = finish_is c.args.carry false (sym (tested c.args.carry _ c.is_valid.ensures) ∙ c.if-carry-is_valid.false)
+returns c =
+    elim c.else-carry-eq0.branch [
+      | else-carry-eq0-via-then-carry-eq0+else-is_valid w ↦
+          finish_is c.args.carry false (simp (eq-eqb _ _ w.if-carry-eq0.true, sym w.is_valid.ensures ∙ w.if-is_valid.false))
+      | else-carry-eq0-via-else-carry-eq0 w ↦ finish_is c.args.carry false (simp (ne_eqb _ _ w.if-carry-eq0.false))
+    ]

@@ -18,26 +18,26 @@ returns-then-total-gt-LONGEST c =
     let a = c.args in
     let line = c.refuse.ensures in
     let both =
-    reply_long a.kept.now a.out.now a.total c.too_long-why.result c.refuse.result c.refuse.new.out c.if-total-gt-LONGEST.true
-    c.too_long-why.ensures line.length line.bytes in
+    reply_long a.kept.now a.out.now a.total c.too_long.result c.refuse.result c.refuse.new.out c.if-total-gt-LONGEST.true
+    c.too_long.ensures line.length line.bytes in
     record { length = both.0; bytes = both.1 }
 
-pub returns-in_default : goal.returns-in_default
-returns-in_default c =
+pub returns-in-Refused : goal.returns-in-Refused
+returns-in-Refused c =
     let a = c.args in
-    let ran = c.run-ran in
+    let ran = c.run in
+    let line = c.refuse-in-Refused in
     let both =
-    reply_ran a.kept.now a.out.now a.total c.fresh-page.result ran.result ran.new.answers c.if-total-gt-LONGEST.false
-    c.fresh-page.ensures ran.ensures.end ran.ensures.lines (granted _ c.in_default.not-Refused) in
+    reply_refused a.kept.now a.out.now a.total c.fresh.result ran.result ran.new.answers c.if-total-gt-LONGEST.false
+    c.fresh.ensures ran.ensures.end ran.ensures.lines
+    _ line.result line.new.out c.in-Refused.is line.ensures.length line.ensures.bytes in
     record { length = both.0; bytes = both.1 }
 
 pub returns : goal.returns
 returns c =
     let a = c.args in
-    let ran = c.run-ran in
-    let line = c.refuse-2 in
+    let ran = c.run in
     let both =
-    reply_refused a.kept.now a.out.now a.total c.fresh-page.result ran.result ran.new.answers c.if-total-gt-LONGEST.false
-    c.fresh-page.ensures ran.ensures.end ran.ensures.lines
-    _ line.result line.new.out c.in-Refused.is line.ensures.length line.ensures.bytes in
+    reply_ran a.kept.now a.out.now a.total c.fresh.result ran.result ran.new.answers c.if-total-gt-LONGEST.false
+    c.fresh.ensures ran.ensures.end ran.ensures.lines (granted _ c.in_default.not-Refused) in
     record { length = both.0; bytes = both.1 }

@@ -1,22 +1,18 @@
--- A turn finds a test that fails, or passes one over.
-use Rattle.std.proofs.Common.{◌≤◌, ◌<◌, false, arith, refl, sym, ◌∙◌, length, drop_of_length-le}
-use Rattle.laws.proofs.Turns.{next}
+-- What std's `position` answers, of either kind, by `broken_by_position`.
+use Rattle.std.proofs.Common.{◌≡◌, rules, sym, ◌∙◌, not, Some, None, position}
+use Rattle.std.proofs.lemmas.Iterator.{YieldsList-from_slice}
+use Rattle.std.proofs.lemmas.Iterator.Search.{position_from_yields_List}
+use Rattle.laws.proofs.Words.{broken_by_position}
 use Rattle.soundness.proofs.first_broken.Goals as goal
 
-pub loop-i-init : goal.loop-i-init
-loop-i-init c = (omega arith, refl)
+pub returns-in-Some : goal.returns-in-Some
+returns-in-Some c =
+    let e : c.position.result ≡ position not c.args.tests =
+    position_from_yields_List _ _ _ _ c.position.ensures.ran (YieldsList-from_slice c.args.tests cc) (λ x b q k. search rules) in
+    broken_by_position c.args.tests (Some c.in-Some.i) (sym c.in-Some.is ∙ e)
 
-pub returns-then-not-tests-i : goal.returns-then-not-tests-i
-returns-then-not-tests-i c =
-    let k : c.loop-i.i < length c.args.tests = omega arith in
-    sym (c.loop-i.invariant.1 ∙ simp (next false, c.if-not-tests-i.true))
-
-pub loop-i-preserved : goal.loop-i-preserved
-loop-i-preserved c =
-    let k : c.loop-i.i < length c.args.tests = omega arith in
-    (c.loop-i.invariant.0, c.loop-i.invariant.1 ∙ simp (next false, c.if-not-tests-i.false))
-
-pub returns : goal.returns
-returns c =
-    let h : length c.args.tests ≤ c.loop-i.i = omega arith in
-    sym (c.loop-i.invariant.1 ∙ simp drop_of_length-le)
+pub returns-in-None : goal.returns-in-None
+returns-in-None c =
+    let e : c.position.result ≡ position not c.args.tests =
+    position_from_yields_List _ _ _ _ c.position.ensures.ran (YieldsList-from_slice c.args.tests cc) (λ x b q k. search rules) in
+    broken_by_position c.args.tests None (sym c.in-None.is ∙ e)

@@ -9,7 +9,5 @@ pub returns-clause-bytes : goal.returns-clause-bytes
 unfolding put_to
 returns-clause-bytes c =
     let a = c.args in
-    let d = c.write_u64 in
     let h : line_size ≤ length a.buffer.now = omega arith in
-    let stands = put_line a.first a.second a.third a.buffer.now a.value h d.new.bytes d.ensures in
-    simp (le-leb _ _ h) stands
+    simp (le-leb _ _ h) (put_line a.first a.second a.third a.value a.buffer.now _ _ h c.copy_from_slice.ensures.after c.write_u64.ensures)

@@ -12,7 +12,7 @@ overflow_add-result c =
     let a = c.args in
     let full : length a.readers.items ≡ capacity = omega arith in
     let few = tally_live a.readers full (is_at a.b.0) in
-    let own = simp c.exc_bucket-editor.ensures at c.ref_at.ensures in
+    let own = simp c.exc_bucket.ensures at c.ref_at.ensures in
     omega (arith, few, own, ref_le (exc_bucket a.e) a.b.0)
 
 -- and the loader
@@ -21,6 +21,6 @@ overflow_add-result-2 c =
     let a = c.args in
     let full : length a.readers.items ≡ capacity = omega arith in
     let few = tally_live a.readers full (is_at a.b.0) in
-    let own = simp c.exc_bucket-editor.ensures at c.ref_at.ensures in
-    let its = simp c.loading_bucket-loader.ensures at c.ref_at-2.ensures in
+    let own = simp c.exc_bucket.ensures at c.ref_at.ensures in
+    let its = simp c.loading_bucket.ensures at c.ref_at-2.ensures in
     omega (arith, few, own, its, ref_le (exc_bucket a.e) a.b.0, ref_le (loading_bucket a.l) a.b.0)
