@@ -35,7 +35,7 @@ pub fn census(page: Page) -> [[Count; 3]; BUCKETS as usize]
     ensures { result ≡ census_of page }
 {
     if is_sound(page) {
-        // A closure for `map` would have to repeat what `census_row` requires.
+        // Tried by `map` and by `array::from_fn`: in the closure it stays open that `census_row` may be called (`census_row-requires`).
         [
             census_row(page.readers, Bucket(0)),
             census_row(page.readers, Bucket(1)),

@@ -42,13 +42,7 @@ fn head_at(image: &[u8]) -> Head
     Head {
         storage: storage_from(byte_at(image, STORED), u64_at(image, STORAGE_VALUE)),
         flag: flag_from(byte_at(image, FLAG)),
-        // Each by hand: of a `map` over the four places it stays open that its closure may be called.
-        ref_counts: [
-            Count(byte_at(image, COUNTS)),
-            Count(byte_at(image, COUNTS + 1)),
-            Count(byte_at(image, COUNTS + 2)),
-            Count(byte_at(image, COUNTS + 3)),
-        ],
+        ref_counts: array::from_fn(|i| Count(byte_at(image, COUNTS + i))),
         exc_state: exc_at(image),
         loading_state: loading_from(
             byte_at(image, LOADER),

@@ -148,6 +148,7 @@ use Rattle.wire.proofs.write_u64.Reads as write_u64_contract
 use Rattle.wire.proofs.put.Reads as put_line_contract
 use Rattle.wire.proofs.write.Reads as write_contract
 use Rattle.wire.proofs.write_answer.Reads as write_answer_contract
+use Rattle.encoding.proofs.phase_value.Reads as phase_value_contract
 use Rattle.encoding.proofs.encode.Reads as encode_contract
 use Rattle.decoding.proofs.decode.Reads as decode_contract
 use Rattle.image.proofs.read.Reads as read_image_contract
@@ -621,6 +622,9 @@ pub write_answer : AtMostOneWith (λ o. o.1.0.now) write_answer_contract.Post
 write_answer = equations (λ o. o.1.0.now) _ _
 
 -- ---- encoding, decoding and image
+pub phase_value : AtMostOne phase_value_contract.Post
+phase_value = equation _
+
 pub encode : AtMostOneWith (λ o. o.1.0.now) encode_contract.Post
 encode = filling (λ o. o.1.0.now) _
 

@@ -1,9 +1,10 @@
 // Operation 6: how the page is judged, what stands in it, and its readers as an image lists them. A value stands in a line as
 // one that was withdrawn does.
 use crate::lines::print_bytes;
-use kinds::{CAPACITY, LINE, Phase, Reader, flag_number, phase_number};
+use encoding::phase_value;
+use kinds::{CAPACITY, LINE, Reader, flag_number, phase_number};
 use page_record::Page;
-use readers::Readers;
+use readers::{Readers, live};
 use requests::Answer;
 
 // Where the census begins.
@@ -43,26 +44,23 @@ fn shown(out: &impl Print, page: Page) {
 
 // One reader.
 fn put_reader(reader: Reader, line: &mut [u8]) {
-    let value = match reader.phase {
-        Phase::Pending | Phase::Pending2 => 0,
-        Phase::Obtained(value) => value,
-    };
-    wire::put(line, phase_number(reader.phase), reader.bucket.0, 0, value);
+    wire::put(
+        line,
+        phase_number(reader.phase),
+        reader.bucket.0,
+        0,
+        phase_value(reader.phase),
+    );
 }
 
 // The listed readers, no more than there is room for.
 fn list(out: &impl Print, readers: Readers) {
-    let listed = readers.len.min(CAPACITY);
+    let listed = live(&readers);
     let mut lines = [0u8; LINE * CAPACITY];
-    for (reader, line) in readers
-        .items
-        .iter()
-        .take(listed)
-        .zip(lines.chunks_exact_mut(LINE))
-    {
+    for (reader, line) in listed.iter().zip(lines.chunks_exact_mut(LINE)) {
         put_reader(*reader, line);
     }
-    print_bytes(out, &lines[..LINE * listed]);
+    print_bytes(out, &lines[..LINE * listed.len()]);
 }
 
 // The page, for who looks at it.

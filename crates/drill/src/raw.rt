@@ -1,14 +1,11 @@
 // A page as it stands in the payload, at the places of an image: nothing is judged but whether each number stands for something,
 // that is, comes back from what it stands for.
-use encoding::{CLEAN, EXC, FLAG, IMAGE, LOADER, READERS, STORED, WRITEBACK};
+use encoding::{CLEAN, EXC, FLAG, IMAGE, LOADER, READERS, STORED, WRITEBACK, YES};
 use kinds::{Flag, LINE, Visited, exc_from, exc_number, loading_from, loading_number};
 use wire::byte_at;
 
 // The highest number that stands for a phase; 0 stands in an entry that is blank.
 const LAST_PHASE: u8 = 3;
-
-// A byte that says yes; no is 0.
-const YES: u8 = 1;
 
 // Whether it has an image's length, and each number in it stands for something.
 pub(crate) fn is_known(payload: &[u8]) -> bool {

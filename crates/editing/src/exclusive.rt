@@ -3,14 +3,13 @@
 // on as a reader (9) or as a claimant (10), for which it needs a bucket: one that has none gets one first (18). One that closed the
 // page as clean puts in what it got.
 ghost use Rattle.std.specs.Prelude.{◌≡◌};
-ghost use Rattle.heads.specs.Decisions.{decided};
+ghost use Rattle.heads.specs.Decisions.{granted};
 ghost use Rattle.editing.specs.Steps.{take_exc_lock_finish_writeback, take_exc_lock_check_ref_count};
 ghost use Rattle.editing.specs.Steps.{withdraw_take_exc_lock_finish, deposit_downgrade_exc_lock};
 ghost use Rattle.editing.specs.Steps.{deposit_downgrade_exc_lock_to_claim, exc_inc_count};
 
 use heads::{
-    Decision, Edit, deposit_exc, leave_exc, may_put_in, number_at, refuse, with_number,
-    withdraw_exc,
+    Decision, Edit, deposit_exc, leave_exc, may_put_in, number_at, with_number, withdraw_exc,
 };
 use kinds::{
     BUCKETS, Bucket, CEILING, ExcState, Flag, Phase, Reader, Visited, lock_flag, writeback_done,
@@ -19,14 +18,14 @@ use page_record::{Head, ref_at};
 use requests::{Refusal, Request};
 
 // 6: the archive is done, and the editor closes the page, as clean or as dirty.
-pub fn take_exc_lock_finish_writeback(h: Head, q: Request) -> Decision
-    ensures { result ≡ decided h (take_exc_lock_finish_writeback h q) }
+pub fn take_exc_lock_finish_writeback(h: Head, q: Request) -> Result<Decision, Refusal>
+    ensures { result ≡ granted (take_exc_lock_finish_writeback h q) }
 {
     if !writeback_done(h.flag) {
-        return refuse(h, Refusal::WrongFlag);
+        return Err(Refusal::WrongFlag);
     }
     let ExcState::PendingAwaitWriteback { bucket, value } = h.exc_state else {
-        return refuse(h, Refusal::NoHolder);
+        return Err(Refusal::NoHolder);
     };
     let clean = q.clean == 1;
     let pending = ExcState::Pending {
@@ -35,12 +34,12 @@ pub fn take_exc_lock_finish_writeback(h: Head, q: Request) -> Decision
         clean,
         value,
     };
-    leave_exc(h, lock_flag(clean), pending, Edit::Keep)
+    Ok(leave_exc(h, lock_flag(clean), pending, Edit::Keep))
 }
 
 // 7: the editor looks at the next bucket: one reference, its own, at its own bucket, and none elsewhere.
-pub fn take_exc_lock_check_ref_count(h: Head) -> Decision
-    ensures { result ≡ decided h (take_exc_lock_check_ref_count h) }
+pub fn take_exc_lock_check_ref_count(h: Head) -> Result<Decision, Refusal>
+    ensures { result ≡ granted (take_exc_lock_check_ref_count h) }
 {
     let ExcState::Pending {
         bucket,
@@ -49,14 +48,14 @@ pub fn take_exc_lock_check_ref_count(h: Head) -> Decision
         value,
     } = h.exc_state
     else {
-        return refuse(h, Refusal::NoHolder);
+        return Err(Refusal::NoHolder);
     };
     if visited >= BUCKETS {
-        return refuse(h, Refusal::WrongVisited);
+        return Err(Refusal::WrongVisited);
     }
     let here = Bucket(visited);
     if usize::from(number_at(h, here)) != ref_at(bucket, here) {
-        return refuse(h, Refusal::OtherCount);
+        return Err(Refusal::OtherCount);
     }
     let pending = ExcState::Pending {
         bucket,
@@ -64,12 +63,12 @@ pub fn take_exc_lock_check_ref_count(h: Head) -> Decision
         clean,
         value,
     };
-    leave_exc(h, h.flag, pending, Edit::Keep)
+    Ok(leave_exc(h, h.flag, pending, Edit::Keep))
 }
 
 // 8: every bucket was looked at; the page is handed out, and the editor keeps its version.
-pub fn withdraw_take_exc_lock_finish(h: Head) -> Decision
-    ensures { result ≡ decided h (withdraw_take_exc_lock_finish h) }
+pub fn withdraw_take_exc_lock_finish(h: Head) -> Result<Decision, Refusal>
+    ensures { result ≡ granted (withdraw_take_exc_lock_finish h) }
 {
     let ExcState::Pending {
         bucket,
@@ -78,22 +77,22 @@ pub fn withdraw_take_exc_lock_finish(h: Head) -> Decision
         value,
     } = h.exc_state
     else {
-        return refuse(h, Refusal::NoHolder);
+        return Err(Refusal::NoHolder);
     };
     if visited != BUCKETS {
-        return refuse(h, Refusal::WrongVisited);
+        return Err(Refusal::WrongVisited);
     }
     let obtained = ExcState::Obtained {
         bucket,
         clean,
         value,
     };
-    withdraw_exc(h, obtained, value)
+    Ok(withdraw_exc(h, obtained, value))
 }
 
 // 9: the editor puts the page in, a clean one as it took it, and reads on.
-pub fn deposit_downgrade_exc_lock(h: Head, q: Request, full: bool) -> Decision
-    ensures { result ≡ decided h (deposit_downgrade_exc_lock h q full) }
+pub fn deposit_downgrade_exc_lock(h: Head, q: Request, full: bool) -> Result<Decision, Refusal>
+    ensures { result ≡ granted (deposit_downgrade_exc_lock h q full) }
 {
     let ExcState::Obtained {
         bucket,
@@ -101,34 +100,32 @@ pub fn deposit_downgrade_exc_lock(h: Head, q: Request, full: bool) -> Decision
         value: kept,
     } = h.exc_state
     else {
-        return refuse(h, Refusal::NoHolder);
+        return Err(Refusal::NoHolder);
     };
-    let Some(own) = bucket else {
-        return refuse(h, Refusal::WrongBucket);
-    };
+    let own = bucket.ok_or(Refusal::WrongBucket)?;
     if full {
-        return refuse(h, Refusal::ListFull);
+        return Err(Refusal::ListFull);
     }
     if !may_put_in(clean, kept, q.value) {
-        return refuse(h, Refusal::OtherValue);
+        return Err(Refusal::OtherValue);
     }
     let reader = Reader {
         phase: Phase::Obtained(q.value),
         bucket: own,
     };
-    deposit_exc(
+    Ok(deposit_exc(
         h,
         q.value,
         Flag::Available,
         ExcState::None,
         Edit::Push(reader),
-    )
+    ))
 }
 
 // 10: the editor puts the page in, a clean one as it took it, and keeps its claim.
 // 9 and 10 stay two functions, as in the source: 10 asks for no room, and one for both would be told by a flag which it is.
-pub fn deposit_downgrade_exc_lock_to_claim(h: Head, q: Request) -> Decision
-    ensures { result ≡ decided h (deposit_downgrade_exc_lock_to_claim h q) }
+pub fn deposit_downgrade_exc_lock_to_claim(h: Head, q: Request) -> Result<Decision, Refusal>
+    ensures { result ≡ granted (deposit_downgrade_exc_lock_to_claim h q) }
 {
     let ExcState::Obtained {
         bucket,
@@ -136,24 +133,24 @@ pub fn deposit_downgrade_exc_lock_to_claim(h: Head, q: Request) -> Decision
         value: kept,
     } = h.exc_state
     else {
-        return refuse(h, Refusal::NoHolder);
+        return Err(Refusal::NoHolder);
     };
     if bucket.is_none() {
-        return refuse(h, Refusal::WrongBucket);
+        return Err(Refusal::WrongBucket);
     }
     if !may_put_in(clean, kept, q.value) {
-        return refuse(h, Refusal::OtherValue);
+        return Err(Refusal::OtherValue);
     }
     let claim = ExcState::Claim {
         bucket,
         value: q.value,
     };
-    deposit_exc(h, q.value, Flag::Claimed, claim, Edit::Keep)
+    Ok(deposit_exc(h, q.value, Flag::Claimed, claim, Edit::Keep))
 }
 
 // 18: an editor that has no bucket gets one, and keeps its version.
-pub fn exc_inc_count(h: Head, q: Request) -> Decision
-    ensures { result ≡ decided h (exc_inc_count h q) }
+pub fn exc_inc_count(h: Head, q: Request) -> Result<Decision, Refusal>
+    ensures { result ≡ granted (exc_inc_count h q) }
 {
     let ExcState::Obtained {
         bucket,
@@ -161,24 +158,24 @@ pub fn exc_inc_count(h: Head, q: Request) -> Decision
         value,
     } = h.exc_state
     else {
-        return refuse(h, Refusal::NoHolder);
+        return Err(Refusal::NoHolder);
     };
     if bucket.is_some() {
-        return refuse(h, Refusal::WrongBucket);
+        return Err(Refusal::WrongBucket);
     }
     let n = number_at(h, q.bucket);
     if n >= CEILING {
-        return refuse(h, Refusal::AtCeiling);
+        return Err(Refusal::AtCeiling);
     }
     let obtained = ExcState::Obtained {
         bucket: Some(q.bucket),
         clean,
         value,
     };
-    leave_exc(
+    Ok(leave_exc(
         with_number(h, q.bucket, n + 1),
         h.flag,
         obtained,
         Edit::Keep,
-    )
+    ))
 }

@@ -1,5 +1,5 @@
 // The steps of those who change the page and of the archive (RULES 3.2, steps 1 to 10 and 18), by the source's names: each decides on
-// a head, and takes any value of its types.
+// a head, and takes any value of its types. Head and request are two parameters: half of them read the head alone.
 #![tactic(auto)]
 
 mod claim;

@@ -11,9 +11,10 @@ mod carried;
 mod lines;
 mod places;
 
-use carried::{exc_value, phase_value, writeback_value};
+pub use carried::phase_value;
+use carried::{exc_value, writeback_value};
 use heads::value_of;
-use kinds::{CAPACITY, LINE, Reader, phase_number};
+use kinds::{CAPACITY, LINE, phase_number};
 use lines::{count_bytes, kind_bytes};
 use page_record::{Head, Page, head_of};
 use places::ZEROS;
@@ -21,7 +22,7 @@ pub use places::{
     BUCKET, CLEAN, COUNTS, EXC, EXC_BUCKET, EXC_VALUE, FLAG, IMAGE, LENGTH, LOADER, LOADER_BUCKET,
     PHASE, READERS, SHORT_IMAGE, STORAGE_VALUE, STORED, VISITED, WRITEBACK, WRITEBACK_VALUE, YES,
 };
-use readers::Readers;
+use readers::{Readers, live};
 
 // Among the values: where the second and the third begin, the zeros after them, and where these end.
 const SECOND: usize = EXC_VALUE - STORAGE_VALUE;
@@ -48,15 +49,20 @@ fn put_entry(readers: Readers, i: usize, out: &mut [u8])
     requires { i < capacity }
     ensures { out.new ≡ put_to (first_entry (drop i (live readers))) out.old }
 {
-    if readers.len <= i {
-        wire::put(out, 0, 0, 0, 0);
-        return;
-    }
-    let Reader { phase, bucket } = readers.items[i];
-    wire::put(out, phase_number(phase), bucket.0, 0, phase_value(phase));
+    match live(&readers).get(i) {
+        Some(reader) => wire::put(
+            out,
+            phase_number(reader.phase),
+            reader.bucket.0,
+            0,
+            phase_value(reader.phase),
+        ),
+        None => wire::put(out, 0, 0, 0, 0),
+    };
 }
 
-// An entry for each place of the list. By places, since no proof knows what was written through `chunks_exact_mut` once it is over.
+// An entry for each place of the list. By places: tried by `chunks_exact_mut`, the clause stays open, since nothing is known of what
+// was lent after such a loop.
 fn put_list(readers: Readers, out: &mut [u8])
     requires { length out.old ≡ line_size * capacity }
     ensures { out.new ≡ entries capacity (live readers) }

@@ -7,7 +7,7 @@ use crate::places::WRITEBACK;
 use kinds::{LINE, exc_number, flag_number, loading_number, storage_number, writeback_number};
 use page_record::{Head, exc_visited};
 
-// The flag, storage, the list's length and the holders.
+// The flag, storage, the list's length and the holders. Of the length sixteen bits are kept, so it is no `u16::to_le_bytes`.
 #[tactic(auto, unfolding(crate::specs::Images::kind_bytes))]
 pub fn kind_bytes(head: Head, len: usize) -> [u8; LINE]
     ensures { result ≡ kind_bytes head len }

@@ -55,3 +55,11 @@ settled h st (Err why) = refused h why
 
 abbrev pub decided : Head → Step → Decision
 decided h st = settled h st (verdict st.premises)
+
+-- the same, where a refusal is its reason alone: what it leaves is what was there
+abbrev pub allowed : Step → Result (Unit {0}) Refusal → Result Decision Refusal
+allowed st (Ok _) = Ok (record { answer = st.answer; head = st.head; edit = st.edit })
+allowed st (Err why) = Err why
+
+abbrev pub granted : Step → Result Decision Refusal
+granted st = allowed st (verdict st.premises)

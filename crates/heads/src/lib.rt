@@ -22,7 +22,7 @@ pub enum Edit {
     Remove(usize),
 }
 
-// What a step decides of a head. It is no Result: a refusal too has a head, as it was, in `decided` of specs/.
+// What is decided of a head. A step answers it where it is granted, else the reason alone; `refuse` is what a refusal then leaves.
 #[derive(Clone, Copy)]
 pub struct Decision {
     pub answer: Answer,

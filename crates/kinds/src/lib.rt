@@ -79,8 +79,8 @@ pub struct Reader {
     pub bucket: Bucket,
 }
 
-// The editor. One that has the page out keeps the version that it took. None is a kind of its own, as it is one of the loader's: a
-// rule or a step asks which of all the kinds stands there, and an Option of the others would be asked in two turns.
+// The editor. One that has the page out keeps the version that it took. None is one of the kinds, here and of the loader: rules and
+// steps ask which of them all stands there.
 #[derive(Clone, Copy, PartialEq, Eq)]
 pub enum ExcState {
     None,

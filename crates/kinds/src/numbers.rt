@@ -1,6 +1,7 @@
 // The kinds of holders as numbers, in the source's order, and back: the bytes of a stored record. Back, any number is taken: one
 // that stands for no kind counts as 0. Of the exclusive kinds 4 is such a number: it was Obtained, without the value that was taken.
-// Only a flag and its number are conversions: a holder's number leaves out what it carries, and none has the number of bucket 255.
+// Only a flag and its number are conversions: a holder's number leaves out what it carries, and no bucket and bucket 255 have one
+// number.
 ghost use Rattle.std.specs.Prelude.{◌≡◌, ◌<◌, MatchResult};
 ghost use Rattle.kinds.specs.Numbers.{flag_number, storage_number, bucket_number, exc_number, loading_number, writeback_number};
 ghost use Rattle.kinds.specs.Numbers.{flag_from, storage_from, bucket_from, phase_from, exc_from, loading_from, writeback_from};

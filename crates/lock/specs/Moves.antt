@@ -1,7 +1,7 @@
 -- The source's state machine `RwLock` as a relation: a constructor for each `transition!{ .. }`, in the source's order and by
 -- its name, and then the six transitions that are ours, in the same words. Written from examples/scache/rwlock.rs, and to be read
 -- beside it; proofs/Exact.antt shows that a step is accepted exactly where this relation allows it. `pre` is the state before,
--- `post` the state after, `q` the request, and `out` what is handed out (`Storage.Out`: nothing).
+-- `post` the state after, `q` the request, and `out` what is handed out (`None`: nothing).
 --
 -- A transition is taken just if every line (name : fact) of its constructor holds. The lines stand in the order of the
 -- source's clauses and have their names, with the field's name where one alone would not tell them apart. What stands before
@@ -35,7 +35,7 @@
 --                                                    puts in is what it took
 --   have ref_counts >= [b => n];                     (have : count_of pre b ≡ n)
 --   let expected_rc = if P { 1 } else { 0 };         (let_expected_rc : (P × (expected_rc ≡ 1)) ⊎ ..)
---   birds_eye let v = pre.storage.get_Some_0();      (birds_eye_let : pre.storage ≡ Storage.In v)
+--   birds_eye let v = pre.storage.get_Some_0();      (birds_eye_let : pre.storage ≡ Some v)
 --   withdraw storage -= Some(v);                     (withdraw : v is in before, nothing after, and v is handed out)
 --   deposit storage += Some(v);                      (deposit : nothing is in before, and v after)
 --   what no clause names                             (only : Only fields pre post out), the other fields stay

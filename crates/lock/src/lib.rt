@@ -14,7 +14,7 @@ use requests::{Answer, Refusal, Request, judge};
 use soundness::is_sound;
 use steps::{decide, sought_by};
 
-// What a step answers, and the page that it leaves.
+// What a step answers, and the page that it leaves, also where it is refused.
 #[derive(Clone, Copy)]
 pub struct Outcome {
     pub answer: Answer,

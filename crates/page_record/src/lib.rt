@@ -55,11 +55,11 @@ pub fn fresh(value: u64) -> Page
     }
 }
 
-// The page without its readers.
+// The page without its readers: no conversion, since these are left out.
 pub fn head_of(page: Page) -> Head
     ensures { result ≡ head_of page }
 {
-    // An array goes by a variable: Rattle proves no literal that takes another field's array straight.
+    // The array goes by a variable: a literal that names the array of another struct gets no proof.
     let ref_counts = page.ref_counts;
     Head {
         storage: page.storage,

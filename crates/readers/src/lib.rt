@@ -10,7 +10,8 @@ ghost use Rattle.readers.specs.Listed.{pushed, put_at, removed_at};
 
 use kinds::{Bucket, CAPACITY, Phase, Reader, phase_number};
 
-// The array, and how many of its entries count: a record has no heap, so an array with its length and no `Vec`.
+// The array, and how many of its entries count. A record has no heap, and `blank_past` and `removed_at` are about what lies past the
+// length: so it is no `Vec`.
 #[derive(Clone, Copy)]
 pub struct Readers {
     pub items: [Reader; CAPACITY],

@@ -1,5 +1,5 @@
 // The steps of the loader and of the readers (RULES 3.2, steps 11 to 17 and 19 to 24), by the source's names: each decides on a head,
-// and takes any value of its types.
+// and takes any value of its types. Head and request are two parameters: half of them read the head alone.
 #![tactic(auto)]
 
 mod loading;

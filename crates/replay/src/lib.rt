@@ -56,7 +56,7 @@ pub fn run(mut page: Page, requests: &[u8], answers: &mut [u8]) -> Outcome
     if let Err(why) = judge_run(page, requests.len(), answers.len()) {
         return lock::refuse(page, why);
     }
-    // Not by `answers.chunks_exact_mut`: std says nothing of what the buffer holds after it, so `lines` would not be proved.
+    // Tried by `answers.chunks_exact_mut` too: the clause `lines` stays open, since nothing is known of the buffer after such a loop.
     for (i, request) in requests.chunks_exact(LINE).enumerate() {
         let turned = turn(page, request);
         wire::write_answer(turned.answer, &mut answers[LINE * i..LINE * (i + 1)]);
@@ -78,7 +78,7 @@ fn too_long(total: usize) -> Refusal
     Refusal::TooMany
 }
 
-// One answer line at the start of `out`; its length, or 0 where it doesn't fit.
+// One answer line at the start of `out`; its length, or 0 where it doesn't fit, as `reply_length` has it.
 fn refuse(why: Refusal, out: &mut [u8]) -> usize
     ensures length { result ≡ refusal_length out.old }
     ensures bytes { out.new ≡ refusal_bytes why out.old }

@@ -1,5 +1,5 @@
 // The steps by which a holder gives back what it has (RULES 3.2, steps 25 to 30). They are ours, named in the source's manner:
-// each decides on a head, and takes any value of its types.
+// each decides on a head, and takes any value of its types. Head and request are two parameters: half of them read the head alone.
 #![tactic(auto)]
 
 mod claim;

@@ -47,10 +47,7 @@ pub fn exc_state_invariants(e: ExcState, s: Option<u64>, l: LoadingState, w: Opt
 pub fn writeback_state_invariants(w: Option<u64>, s: Option<u64>, l: LoadingState) -> bool
     ensures { result ≡ writeback_state_invariants w s l }
 {
-    match w {
-        None => true,
-        Some(value) => no_load(l) & holds(s, value),
-    }
+    w.is_none_or(|value| no_load(l) & holds(s, value))
 }
 
 // Rule 4: a loader stands at one of the four buckets; one that is counted has a bucket. Until it is Obtained there is no
@@ -61,10 +58,9 @@ pub fn loading_state_invariants(l: LoadingState, w: Option<u64>) -> bool
     match l {
         LoadingState::None => true,
         LoadingState::Pending => no_writeback(w),
-        LoadingState::PendingCounted { bucket } => match bucket {
-            None => false,
-            Some(own) => no_writeback(w) & (own.0 < BUCKETS),
-        },
+        LoadingState::PendingCounted { bucket } => {
+            bucket.is_some_and(|own| no_writeback(w) & (own.0 < BUCKETS))
+        }
         LoadingState::Obtained { bucket } => valid_bucket(bucket),
     }
 }

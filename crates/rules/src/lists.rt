@@ -1,4 +1,5 @@
-// Rules 5 and 7, which read the list of readers: clause for clause as in the source.
+// Rules 5 and 7, which read the list of readers: clause for clause as in the source. Rule 5 takes the parts that it reads, and rule
+// 7, which reads nearly all, the head.
 ghost use Rattle.std.specs.Prelude.{◌≡◌, eqb};
 ghost use Rattle.readers.specs.Listed.{live};
 ghost use Rattle.page_record.specs.References.{count_all_refs};

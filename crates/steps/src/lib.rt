@@ -4,7 +4,8 @@
 #![tactic(auto)]
 
 ghost use Rattle.std.specs.Prelude.{◌≡◌};
-ghost use Rattle.steps.specs.Decide.{decide_of, sought_of};
+ghost use Rattle.heads.specs.Decisions.{granted};
+ghost use Rattle.steps.specs.Decide.{step_at, decide_of, sought_of};
 
 use editing::{
     bucketless_claim, claim_to_pending, deposit_downgrade_exc_lock,
@@ -45,11 +46,9 @@ pub fn sought_by(request: Request) -> Option<Reader>
 }
 
 // The step that a request names, on a head. `found` is where the reader that it looks for stands, and `full` whether the list
-// has no room. The step's byte may be any, and each number calls the source's step by its name: an enum of the 30 would be made of
-// the number only to be matched on once.
-#[tactic(auto, unfolding(crate::specs::Decide::decide_of))]
-pub fn decide(head: Head, request: Request, found: Option<usize>, full: bool) -> Decision
-    ensures { result ≡ decide_of head request found full }
+// has no room. A match on the number and no enum of the 30: any byte gets an answer (demand1), by the list `steps` of specs/.
+fn take(head: Head, request: Request, found: Option<usize>, full: bool) -> Result<Decision, Refusal>
+    ensures { result ≡ granted (step_at head request found full) }
 {
     match request.step {
         1 => take_writeback(head),
@@ -80,6 +79,16 @@ pub fn decide(head: Head, request: Request, found: Option<usize>, full: bool) ->
         28 => cancel_exc_lock_to_claim(head),
         29 => deposit_exc_lock_to_done(head, request),
         30 => deposit_exc_lock_to_unmapped(head, request),
-        0 | 31..=255 => refuse(head, Refusal::UnknownStep),
+        0 | 31..=255 => Err(Refusal::UnknownStep),
+    }
+}
+
+// What is decided: the step where it is granted. A refusal leaves the head and the list as they are.
+pub fn decide(head: Head, request: Request, found: Option<usize>, full: bool) -> Decision
+    ensures { result ≡ decide_of head request found full }
+{
+    match take(head, request, found, full) {
+        Ok(decision) => decision,
+        Err(why) => refuse(head, why),
     }
 }

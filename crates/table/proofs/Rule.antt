@@ -35,12 +35,12 @@ use Rattle.lock.specs.declared.Outcome.{Outcome}
 use Rattle.lock.specs.Step.{edited_in, refused_by, applied, stepped, step_of}
 use Rattle.lock.specs.Applies.{flag_lets}
 use Rattle.lock.proofs.Keeps.{unfit_stays}
-use Rattle.table.specs.Table.{columns, step_in, clean_in, column_of, never, row, entry_at, entry_of}
+use Rattle.table.specs.Table.{columns, step_in, clean_in, column_of, never, entry_at, entry_of}
 use Rattle.table.specs.Next.{Next, next_number, next_flag}
 use Rattle.table.specs.Entry.{Asks, Entry, none, some}
 use Rattle.table.specs.Engine.{why_never, marked, taken, looked_up}
 use Rattle.table.proofs.Flags.{at_place, flag_below}
-use Rattle.table.proofs.Rows.{past_row}
+use Rattle.table.proofs.Rows.{array, past_row}
 use Rattle.table.proofs.Lands.{decides}
 use Rattle.table.proofs.Exhibits.{page, request, exhibited}
 
@@ -53,7 +53,7 @@ entry_says : (f : Flag) (c : ℕ) → c < columns → entry_at f c ≡ next_numb
 entry_says f c k = eqb→eq _ _ (at_place (λ f c. eqb (entry_at f c) (next_number (next_flag f c))) rows_say f c k)
 
 -- so many are flags
-pub ninety_three : tally (λ n. not (eqb n never)) (flat_map row flags) ≡ 93
+pub ninety_three : tally (λ n. not (eqb n never)) (flat_map (λ r. r) array) ≡ 93
 ninety_three = refl
 
 -- ---- the words and the step

@@ -56,7 +56,7 @@ fn flag_lets(step: u8, flag: Flag) -> bool
     }
 }
 
-// A page that was accepted gets the flag of this number.
+// A page that was accepted gets the flag of this number, an entry's.
 fn mark(out: Outcome, number: u8) -> Outcome
     ensures { result ≡ marked number out }
 {
@@ -88,7 +88,8 @@ fn look_up(page: Page, request: Request) -> Outcome
     mark(take_step(page, request), number)
 }
 
-// One request on one page, as `lock::step` has it.
+// One request on one page, as `lock::step` has it. The two are not one function: it would take the rest as a closure and so have a
+// `requires`, which no public function has.
 #[tactic(auto, using(lock::proofs::Keeps::unsound_stays, lock::proofs::Keeps::unfit_stays, crate::proofs::Rule::looked_up_lem))]
 pub fn step_by_table(page: Page, request: Request) -> Outcome
     ensures { result ≡ step_of page request }

@@ -26,7 +26,7 @@ pub fn u64_at(bytes: &[u8], at: usize) -> u64
     bytes.get(at..).map_or(0, read_u64)
 }
 
-// Fills the bytes with the low bytes of `v`.
+// Fills the bytes, however many, with the low bytes of `v`: `to_le_bytes` gives just eight.
 pub fn write_u64(bytes: &mut [u8], v: u64)
     ensures { bytes.new ≡ low_bytes (length bytes.old) v }
 {

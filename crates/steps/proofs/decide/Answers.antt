@@ -1,33 +1,33 @@
--- The list of the steps has the same at 20, 21 and 22, and nothing past the last.
-use Rattle.std.specs.Prelude.{Option, ℕ}
-use Rattle.std.proofs.Common.{◌≡◌, ◌≤◌, ℕ, suc, Bool, arith, ap, sym, ◌∙◌, get_or}
-use lib.ListN.{get_or-eq_default}
+-- A step that is granted is what is decided, and so is the refusal that is left of one that isn't.
+use Rattle.std.specs.Prelude.{Result, Ok, Err}
+use Rattle.std.proofs.Common.{◌≡◌, sym, ◌∙◌}
 use Rattle.page_record.specs.declared.Head.{Head}
-use Rattle.requests.specs.declared.{Refusal.Refusal, Request.Request}
-use Rattle.requests.specs.Requests.{last_step}
-use Rattle.heads.specs.Decisions.{refused, decided}
-use Rattle.steps.specs.Decide.{decide_of, steps, unknown}
+use Rattle.requests.specs.declared.Refusal.{Refusal}
+use Rattle.requests.specs.Premises.{verdict}
+use Rattle.heads.specs.declared.Decision.{Decision}
+use Rattle.heads.specs.Decisions.{Step, refused, settled, allowed}
+use Rattle.steps.specs.Decide.{step_at, decide_of}
 use Rattle.steps.proofs.decide.Goals as goal
 
-module _ (h : Head) (q : Request) (found : Option ℕ) (full : Bool) where
-  -- the step of a number
-  at : (n : ℕ) → q.step ≡ n → decide_of h q found full ≡ decided h (get_or (steps h q found full) n (unknown h))
-  unfolding decide_of
-  at n e = ap (λ n. decided h (get_or (steps h q found full) n (unknown h))) e
+module _ (h : Head) (st : Step) where
+  goes_on : (v : Result (Unit {0}) Refusal) (d : Decision) → allowed st v ≡ Ok d → d ≡ settled h st v
+  goes_on (Ok _) d e = cc
+  goes_on (Err why) d e = absurd (let z : ◌≡◌ {A = Result Decision Refusal} (Err why) (Ok d) = e in cc)
 
-  -- no step has a number past the last
-  past : suc last_step ≤ q.step → decide_of h q found full ≡ refused h Refusal.UnknownStep
-  unfolding decide_of
-  past e = ap (decided h) (get_or-eq_default (steps h q found full) (unknown h) e)
+  stays : (v : Result (Unit {0}) Refusal) (why : Refusal) → allowed st v ≡ Err why → refused h why ≡ settled h st v
+  stays (Ok _) why e = absurd (let z : ◌≡◌ {A = Result Decision Refusal} (Ok _) (Err why) = e in cc)
+  stays (Err w) why e = let same : why ≡ w = cc in rw same
 
-pub returns-in-0 : goal.returns-in-0
-returns-in-0 c =
+pub returns-in-Ok : goal.returns-in-Ok
+unfolding decide_of
+returns-in-Ok c =
     let a = c.args in
-    let here = at a.head a.request a.found a.full in
-    c.refuse.ensures ∙ sym (grind (arith, here 0, past))
+    let st = step_at a.head a.request a.found a.full in
+    goes_on a.head st (verdict st.premises) _ (sym c.take.ensures ∙ c.in-Ok.is)
 
-pub returns-in-20-to-22 : goal.returns-in-20-to-22
-returns-in-20-to-22 c =
+pub returns-in-Err : goal.returns-in-Err
+unfolding decide_of
+returns-in-Err c =
     let a = c.args in
-    let here = at a.head a.request a.found a.full in
-    c.shared_dec_count.ensures ∙ sym (grind (arith, here 20, here 21, here 22))
+    let st = step_at a.head a.request a.found a.full in
+    c.refuse.ensures ∙ stays a.head st (verdict st.premises) _ (sym c.take.ensures ∙ c.in-Err.is)
