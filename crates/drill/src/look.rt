@@ -28,7 +28,7 @@ fn judged(out: &impl Print, page: Page) {
     print_bytes(out, &line);
 }
 
-// The flag, whether storage is in, the list's length, the counts, and storage's value.
+// The flag, whether storage is in, the list's length (sixteen bits of it), the counts, and storage's value.
 fn shown(out: &impl Print, page: Page) {
     let carried = page.storage.map_or(Answer::Accepted, Answer::Withdrew);
     let mut line = [0u8; LINE];

@@ -3,7 +3,9 @@ ghost use Rattle.std.specs.Prelude.{◌≡◌};
 ghost use Rattle.page_record.specs.Holders.{exc_clean, exc_value, writeback_value};
 ghost use Rattle.encoding.specs.Carried.{phase_value, exc_bucket_number, loading_bucket_number};
 
+use heads::value_of;
 use kinds::{ExcState, LoadingState, Phase, bucket_number};
+use page_record::{exc_bucket, loading_bucket};
 
 // The value of a reader that has come through.
 pub fn phase_value(p: Phase) -> u64
@@ -21,10 +23,7 @@ pub fn exc_bucket_number(e: ExcState) -> u8
 {
     match e {
         ExcState::None => 0,
-        ExcState::Claim { bucket, .. }
-        | ExcState::PendingAwaitWriteback { bucket, .. }
-        | ExcState::Pending { bucket, .. }
-        | ExcState::Obtained { bucket, .. } => bucket_number(bucket),
+        _ => bucket_number(exc_bucket(e)),
     }
 }
 
@@ -57,15 +56,13 @@ pub fn loading_bucket_number(l: LoadingState) -> u8
 {
     match l {
         LoadingState::None | LoadingState::Pending => 0,
-        LoadingState::PendingCounted { bucket } | LoadingState::Obtained { bucket } => {
-            bucket_number(bucket)
-        }
+        _ => bucket_number(loading_bucket(l)),
     }
 }
 
-// The archive's value.
+// The archive's value: as storage's.
 pub fn writeback_value(w: Option<u64>) -> u64
     ensures { result ≡ writeback_value w }
 {
-    w.unwrap_or(0)
+    value_of(w)
 }

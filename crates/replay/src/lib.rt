@@ -78,7 +78,7 @@ fn too_long(total: usize) -> Refusal
     Refusal::TooMany
 }
 
-// One answer line at the start of `out`; its length, or 0 where it doesn't fit, as `reply_length` has it.
+// One answer line at the start of `out`; its length, or 0 where it doesn't fit, as `refusal_length` has it.
 fn refuse(why: Refusal, out: &mut [u8]) -> usize
     ensures length { result ≡ refusal_length out.old }
     ensures bytes { out.new ≡ refusal_bytes why out.old }
@@ -91,7 +91,7 @@ fn refuse(why: Refusal, out: &mut [u8]) -> usize
 }
 
 // What the program writes for an input of `total` bytes, of which `kept` are the first, up to as many as a run takes: it
-// stands at the start of `out`, and the result says how many bytes it has. An input that is longer is judged by `total` alone,
+// stands at the start of `out`, and the result says how many bytes it has (0 where there is no room: `reply_length`). An input that is longer is judged by `total` alone,
 // any other by `kept` alone.
 pub fn reply(kept: &[u8], total: usize, out: &mut [u8]) -> usize
     ensures length { result ≡ reply_length kept.now total out.old }

@@ -41,7 +41,7 @@ pub fn entry(flag: Flag, step: u8, clean: u8) -> u8
     row.get(column_of(step, clean)).copied().unwrap_or(NEVER)
 }
 
-// Whether the step takes this flag; most steps ask nothing of it.
+// Whether the step takes this flag; most steps ask nothing of it. By the step's number, as `steps::take`.
 fn flag_lets(step: u8, flag: Flag) -> bool
     ensures { result ≡ flag_lets step flag }
 {
@@ -56,7 +56,7 @@ fn flag_lets(step: u8, flag: Flag) -> bool
     }
 }
 
-// A page that was accepted gets the flag of this number, an entry's.
+// A page that was accepted gets the flag of this number, an entry's: `marked` is over it.
 fn mark(out: Outcome, number: u8) -> Outcome
     ensures { result ≡ marked number out }
 {
@@ -64,11 +64,11 @@ fn mark(out: Outcome, number: u8) -> Outcome
         return out;
     }
     Outcome {
-        answer: out.answer,
         page: Page {
             flag: flag_from(number),
             ..out.page
         },
+        ..out
     }
 }
 
