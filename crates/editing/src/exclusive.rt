@@ -1,7 +1,8 @@
 // The editor, from the end of its wait until it puts the page in: steps 6 to 10, and 18. It closes the page (6), looks at one
 // bucket after the other until it has found no reference but its own (7), and gets the page (8). It puts the page in and goes
 // on as a reader (9) or as a claimant (10), for which it needs a bucket: one that has none gets one first (18). One that closed the
-// page as clean puts in what it got.
+// page as clean puts in what it got. Each names what it takes of the editor by its pattern: a function for that would answer a struct
+// of the same fields.
 ghost use Rattle.std.specs.Prelude.{◌≡◌};
 ghost use Rattle.heads.specs.Decisions.{granted};
 ghost use Rattle.editing.specs.Steps.{take_exc_lock_finish_writeback, take_exc_lock_check_ref_count};

@@ -1,4 +1,5 @@
--- What `lend` promises is the whole outcome, page and answer: two that meet its contract are one. Assumes nothing.
+-- What `lend` promises is the whole outcome, page and answer: two that meet its contract are one. demands/NoSecond says so of every
+-- function; here it stands for `lend`, so that a weaker promise is refused in this crate. Assumes nothing.
 use mathlib.Core.Path.{◌≡◌}
 use Rattle.lock.specs.declared.Outcome.{Outcome}
 use Rattle.lock.proofs.lend.Reads as lend_contract

@@ -28,7 +28,7 @@ pub struct Carry {
     pub len: usize,
 }
 
-// What a piece comes to: its answer, what it leaves, and how many answer lines it gave.
+// What a piece comes to: its answer, what it leaves, also where it is refused, and how many answer lines it gave.
 #[derive(Clone, Copy)]
 pub struct Taken {
     pub answer: Answer,

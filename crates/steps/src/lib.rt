@@ -28,7 +28,7 @@ use returning::{
 };
 
 // The reader that a request looks for: 4 and 22 an Obtained one with the request's value, 20 and 23 a Pending one, 21 and 24
-// a Pending2 one.
+// a Pending2 one. By the number, as `take`.
 #[tactic(auto, unfolding(crate::specs::Decide::sought_of))]
 pub fn sought_by(request: Request) -> Option<Reader>
     ensures { result ≡ sought_of request }

@@ -1,5 +1,5 @@
 -- A piece that is refused, and one that is a run of its whole requests.
-use Rattle.std.specs.Prelude.{Ok, Err, ℕ}
+use Rattle.std.specs.Prelude.{Ok, Err}
 use Rattle.std.proofs.Common.{◌≡◌, ℕ, ◌+◌, ◌≤◌, rules, arith, sym, ◌∙◌}
 use Rattle.std.proofs.Math.Seq.{length-take-le}
 use Rattle.page_record.specs.declared.Page.{Page}
