@@ -3,7 +3,7 @@
 #![tactic(auto)]
 
 ghost use Rattle.std.specs.Prelude.{◌≡◌, Ok};
-ghost use Rattle.readers.specs.Listed.{live};
+ghost use Rattle.readers.specs.Listed.{live, pushed, after_push};
 ghost use Rattle.lock.specs.Step.{look_for, edited_in, refused_by, stepped, step_of};
 
 use heads::{Decision, Edit};
@@ -29,6 +29,17 @@ fn look_for(readers: Readers, sought: Option<Reader>) -> Option<usize>
     find(readers, sought?)
 }
 
+// The readers with one more, or as they were where there is no room. Not inlined, so that a step that adds nobody need not clear
+// the room of what `push` answers.
+#[inline(never)]
+fn with_one_more(readers: Readers, reader: Reader) -> Readers
+    ensures { result ≡ after_push (pushed readers reader) }
+{
+    match push(readers, reader) {
+        Ok(after) | Err(after) => after,
+    }
+}
+
 // The readers after an edit.
 #[tactic(auto, unfolding(crate::specs::Step::edited_in))]
 fn edited(readers: Readers, edit: Edit) -> Readers
@@ -36,9 +47,7 @@ fn edited(readers: Readers, edit: Edit) -> Readers
 {
     match edit {
         Edit::Keep => readers,
-        Edit::Push(reader) => match push(readers, reader) {
-            Ok(after) | Err(after) => after,
-        },
+        Edit::Push(reader) => with_one_more(readers, reader),
         Edit::Put(place, reader) => put(readers, place, reader),
         Edit::Remove(place) => remove(readers, place),
     }

@@ -57,19 +57,14 @@ fn flag_lets(step: u8, flag: Flag) -> bool
 }
 
 // A page that was accepted gets the flag of this number, an entry's: `marked` is over it.
-fn mark(out: Outcome, number: u8) -> Outcome
+fn mark(mut out: Outcome, number: u8) -> Outcome
     ensures { result ≡ marked number out }
 {
     if matches!(out.answer, Answer::Refused(_)) {
         return out;
     }
-    Outcome {
-        page: Page {
-            flag: flag_from(number),
-            ..out.page
-        },
-        ..out
-    }
+    out.page.flag = flag_from(number);
+    out
 }
 
 // A request whose fields are in order, on a page that was judged: what nobody accepts is refused at once, before a reader is searched
