@@ -71,23 +71,16 @@ pub fn find(rs: Readers, want: Reader) -> Option<usize>
     place_of(live(&rs), want)
 }
 
-// How many of these readers stand at a bucket. No `filter` and `count`, which jump at each reader that is passed over: this is asked
-// of the whole list four times for each request.
-pub fn count_among(readers: &[Reader], bucket: Bucket) -> usize
-    ensures { result ≡ count_at bucket.0 readers.now }
+// How many readers stand at a bucket. The list is lent, since this is asked of all of it four times for each request; and it is no
+// `filter` and `count`, which jump at each reader that is passed over.
+pub fn count_at(rs: &Readers, bucket: Bucket) -> usize
+    ensures { result ≡ count_at bucket.0 (live rs.now) }
 {
     let mut n = 0;
-    for r in readers {
+    for r in live(rs) {
         n += (r.bucket == bucket) as usize;
     }
     n
-}
-
-// How many readers stand at a bucket.
-pub fn count_at(rs: Readers, bucket: Bucket) -> usize
-    ensures { result ≡ count_at bucket.0 (live rs) }
-{
-    count_among(live(&rs), bucket)
 }
 
 // How many readers stand at a bucket in the phase of this number, 1 to 3: a number, as in the clause `count_in` and in `phases_sum`.

@@ -5,16 +5,18 @@ ghost use Rattle.readers.specs.Listed.{live};
 ghost use Rattle.page_record.specs.References.{count_all_refs};
 ghost use Rattle.rules.specs.Rules.{ref_count_invariant, exc_lets, shared_state_valid, shared_storage_invariant};
 
-use kinds::{BUCKETS, Bucket, Count, ExcState, LoadingState, Phase, Reader, is_unmapped};
+use kinds::{BUCKETS, Bucket, CAPACITY, Count, ExcState, LoadingState, Phase, Reader, is_unmapped};
 use page_record::{Head, exc_bucket, holds, is_before_loading, loading_bucket, no_load, ref_at};
-use readers::{Readers, count_among, live};
+use readers::{Readers, count_at, live};
 
-// The count at a bucket is the number of references there: the readers', the editor's and the loader's.
-fn count_right(count: Count, readers: &[Reader], e: ExcState, l: LoadingState, b: Bucket) -> bool
-    ensures { result ≡ eqb count.0 (count_all_refs readers.now e l b.0) }
+// The count at a bucket is the number of references there: the readers', the editor's and the loader's. More readers than a list has
+// room for stand nowhere, and are no count: the test is there for the sums.
+fn count_right(count: Count, readers: &Readers, e: ExcState, l: LoadingState, b: Bucket) -> bool
+    ensures { result ≡ eqb count.0 (count_all_refs (live readers.now) e l b.0) }
 {
-    count.0 as usize
-        == count_among(readers, b) + ref_at(exc_bucket(e), b) + ref_at(loading_bucket(l), b)
+    let here = count_at(readers, b);
+    here <= CAPACITY
+        && count.0 as usize == here + ref_at(exc_bucket(e), b) + ref_at(loading_bucket(l), b)
 }
 
 // Rule 5: each count is right.
@@ -26,8 +28,7 @@ pub fn ref_count_invariant(
 ) -> bool
     ensures { result ≡ ref_count_invariant counts (live readers) e l }
 {
-    let listed = live(&readers);
-    (0..BUCKETS).all(|b| count_right(counts[b as usize], listed, e, l, Bucket(b)))
+    (0..BUCKETS).all(|b| count_right(counts[b as usize], &readers, e, l, Bucket(b)))
 }
 
 // The editor has not yet closed this bucket.
