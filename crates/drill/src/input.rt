@@ -1,5 +1,8 @@
-// The input: the operations, each a head and a payload.
-ghost use Rattle.std.specs.Prelude.{◌≤◌, length, IfOk, IfSome};
+// The input: the operations, each a head and a payload, within what may be read in all.
+ghost use Rattle.std.specs.Prelude.{◌≡◌, ◌+◌, ◌≤◌, length, take, IfOk, IfSome, IfNone, IfErr};
+ghost use Rattle.std.specs.Io.KnownBytes.{Consumes};
+ghost use Rattle.std.specs.Io.Take.{take_limit, take_remaining};
+ghost use Rattle.kinds.specs.Limits.{line_size};
 
 use kinds::LINE;
 use std::io::{Read, Take};
@@ -61,31 +64,68 @@ pub struct Order<'a> {
     pub payload: &'a [u8],
 }
 
+// Reads until the buffer is full, the input ends, a read fails or no more may be read; answers how many bytes came. They stand at
+// its start, and so many fewer may be read. As in desk no `read_exact`: where it fails it says neither what came nor what may still
+// be read, and it reads on after an interrupt.
+fn read_full<R: Read>(input: &mut Take<R>, buffer: &mut [u8]) -> usize
+    ensures within { result ≤ length buffer.old }
+    ensures most { take_limit input.new + result ≡ take_limit input.old }
+    ensures bytes { Consumes (take_remaining R.remaining input.old) (take_remaining R.remaining input.new) (take result buffer.new) }
+{
+    let mut done = 0;
+    while done < buffer.len() {
+        match input.read(&mut buffer[done..]) {
+            Ok(0) | Err(_) => break,
+            Ok(n) => done += n,
+        }
+    }
+    done
+}
+
 // The next operation, of which the payload is read into what is lent for it; none where the input ends before its head. Its number
 // is read with the three bytes above it: where they aren't zero, it is too high to be listed.
-pub(crate) fn next<'a, R: Read>(
+fn read_order<'a, R: Read>(
     input: &mut Take<R>,
     space: &'a mut [u8],
 ) -> Result<Option<Order<'a>>, Broken>
     ensures within { IfOk result (λ found. IfSome found (λ order. length order.payload.now ≤ length space.old)) }
+    ensures falls { IfOk result (λ found. IfSome found (λ order. take_limit input.new + line_size + length order.payload.now ≡ take_limit input.old)) }
 {
-    let before = input.limit();
     let mut head = [0u8; LINE];
-    if input.read_exact(&mut head).is_err() {
-        return if input.limit() == before {
-            Ok(None)
-        } else {
-            Err(Broken)
-        };
+    let came = read_full(input, &mut head);
+    if came == 0 {
+        return Ok(None);
+    }
+    if came < LINE {
+        return Err(Broken);
     }
     let numbers = u64_at(&head, 0);
     let operation = Operation::try_from(numbers % FOUR_BYTES)?;
     let length = (numbers / FOUR_BYTES) as usize;
     let payload = space.get_mut(..length).ok_or(Broken)?;
-    input.read_exact(payload).map_err(|_| Broken)?;
+    if read_full(input, payload) < length {
+        return Err(Broken);
+    }
     Ok(Some(Order {
         operation,
         a: u64_at(&head, VALUE),
         payload,
     }))
+}
+
+// The next operation; a head at least and its payload are taken off what may be read. Where there is none no more may be read.
+pub(crate) fn next<'a, R: Read>(
+    input: &mut Take<R>,
+    space: &'a mut [u8],
+) -> Result<Option<Order<'a>>, Broken>
+    ensures within { IfOk result (λ found. IfSome found (λ order. length order.payload.now ≤ length space.old)) }
+    ensures falls { IfOk result (λ found. IfSome found (λ order. take_limit input.new + line_size + length order.payload.now ≡ take_limit input.old)) }
+    ensures ends { IfOk result (λ found. IfNone found (take_limit input.new ≡ 0)) }
+    ensures breaks { IfErr result (λ _. take_limit input.new ≡ 0) }
+{
+    let found = read_order(input, space);
+    if !matches!(found, Ok(Some(_))) {
+        input.set_limit(0);
+    }
+    found
 }
