@@ -1,6 +1,6 @@
 // A page as it stands in the payload, at the places of an image: nothing is judged but whether each number stands for something,
 // that is, comes back from what it stands for.
-use encoding::{CLEAN, EXC, FLAG, IMAGE, LOADER, READERS, STORED, WRITEBACK, YES};
+use encoding::{CLEAN, EXC, FLAG, IMAGE, LOADER, PHASE, READERS, STORED, WRITEBACK, YES};
 use kinds::{Flag, LINE, Visited, exc_from, exc_number, loading_from, loading_number};
 use wire::byte_at;
 
@@ -12,11 +12,9 @@ pub(crate) fn is_known(payload: &[u8]) -> bool {
     let exc = byte_at(payload, EXC);
     let loader = byte_at(payload, LOADER);
     payload.len() == IMAGE
-        && payload
-            .iter()
-            .skip(READERS)
-            .step_by(LINE)
-            .all(|phase| *phase <= LAST_PHASE)
+        && payload[READERS..]
+            .chunks_exact(LINE)
+            .all(|entry| byte_at(entry, PHASE) <= LAST_PHASE)
         && Flag::try_from(byte_at(payload, FLAG)).is_ok()
         && exc_number(exc_from(exc, None, Visited(0), false, 0)) == exc
         && loading_number(loading_from(loader, None)) == loader
