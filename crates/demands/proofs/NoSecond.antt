@@ -25,11 +25,13 @@ use Rattle.kinds.proofs.released.Reads as released_contract
 use Rattle.kinds.proofs.unawaited.Reads as unawaited_contract
 use Rattle.kinds.proofs.unclaimed.Reads as unclaimed_contract
 use Rattle.kinds.proofs.writeback_done.Reads as writeback_done_contract
+use Rattle.kinds.proofs.flags.U8FromFlag.from.Reads as u8_from_flag_contract
 use Rattle.kinds.proofs.bucket_from.Reads as bucket_from_contract
 use Rattle.kinds.proofs.bucket_number.Reads as bucket_number_contract
 use Rattle.kinds.proofs.exc_from.Reads as exc_from_contract
 use Rattle.kinds.proofs.exc_number.Reads as exc_number_contract
 use Rattle.kinds.proofs.flag_from.Reads as flag_from_contract
+use Rattle.kinds.proofs.numbers.FlagTryFromU8.try_from.Reads as flag_try_from_u8_contract
 use Rattle.kinds.proofs.loading_from.Reads as loading_from_contract
 use Rattle.kinds.proofs.loading_number.Reads as loading_number_contract
 use Rattle.kinds.proofs.phase_from.Reads as phase_from_contract
@@ -210,6 +212,9 @@ claimed = equation _
 pub flag_number : AtMostOne flag_number_contract.Post
 flag_number = equation _
 
+pub u8_from_flag : AtMostOne u8_from_flag_contract.Post
+u8_from_flag = equation _
+
 pub is_available : AtMostOne is_available_contract.Post
 is_available = equation _
 
@@ -251,6 +256,9 @@ exc_number = equation _
 
 pub flag_from : AtMostOne flag_from_contract.Post
 flag_from = equation _
+
+pub flag_try_from_u8 : AtMostOne flag_try_from_u8_contract.Post
+flag_try_from_u8 = equation _
 
 pub loading_from : AtMostOne loading_from_contract.Post
 loading_from = equation _

@@ -1,10 +1,11 @@
 -- The number of each flag and of each kind of holder, in the source's order, and back: the bytes of a stored record (RULES 5.5).
 -- Back, any number is taken: one that stands for no kind counts as 0. Of the exclusive kinds 4 is such a number: it was Obtained,
 -- without the value that was taken.
-use Rattle.std.specs.Prelude.{ℕ, Option, Some, None, Bool, cond, List, [], ◌∷◌, eqb, get_or}
+use Rattle.std.specs.Prelude.{ℕ, Option, Some, None, Result, Ok, Err, Bool, cond, List, [], ◌∷◌, eqb, ltb, length, get_or}
 use Rattle.kinds.specs.declared.{Flag.Flag, Visited.Visited, Phase.Phase}
 use Rattle.kinds.specs.declared.{ExcState.ExcState, LoadingState.LoadingState}
 use Rattle.kinds.specs.declared.Bucket.{Bucket}
+use Rattle.kinds.specs.declared.numbers.UnknownFlag.{UnknownFlag}
 
 -- ---- numbers
 
@@ -81,6 +82,10 @@ flags =
 
 unfoldable pub flag_from : ℕ → Flag
 flag_from n = get_or flags n Flag.Unmapped
+
+-- the same where the number is a flag's; one that is no flag's is refused, and told
+unfoldable pub flag_tried : ℕ → Result Flag UnknownFlag
+flag_tried n = cond (ltb n (length flags)) (Ok (flag_from n)) (Err (record { 0 = n }))
 
 -- storage, with this value where it is in
 unfoldable pub storage_from : ℕ → ℕ → Option ℕ

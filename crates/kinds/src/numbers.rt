@@ -2,9 +2,10 @@
 // that stands for no kind counts as 0. Of the exclusive kinds 4 is such a number: it was Obtained, without the value that was taken.
 // Only a flag and its number are conversions: a holder's number leaves out what it carries, and no bucket and bucket 255 have one
 // number.
-ghost use Rattle.std.specs.Prelude.{◌≡◌, ◌<◌, MatchResult};
-ghost use Rattle.kinds.specs.Numbers.{flag_number, storage_number, bucket_number, exc_number, loading_number, writeback_number};
-ghost use Rattle.kinds.specs.Numbers.{flag_from, storage_from, bucket_from, phase_from, exc_from, loading_from, writeback_from};
+ghost use Rattle.std.specs.Prelude.{◌≡◌};
+ghost use Rattle.kinds.specs.Numbers.{storage_number, bucket_number, exc_number, loading_number, writeback_number};
+ghost use Rattle.kinds.specs.Numbers.{flag_from, flag_tried, storage_from, bucket_from, phase_from};
+ghost use Rattle.kinds.specs.Numbers.{exc_from, loading_from, writeback_from};
 
 use crate::{Bucket, ExcState, Flag, LoadingState, Phase, Visited};
 
@@ -64,8 +65,9 @@ pub struct UnknownFlag(pub u8);
 impl TryFrom<u8> for Flag {
     type Error = UnknownFlag;
 
-    ghost try_from_gives = { λ n r. MatchResult r (λ f. flag_number f ≡ n) (λ e. (e.0 ≡ n) × (10 < n)) };
+    ghost try_from_gives = { λ n r. r ≡ flag_tried n };
 
+    #[tactic(auto, unfolding(crate::specs::Numbers::flag_tried, crate::specs::Numbers::flag_from))]
     fn try_from(number: u8) -> Result<Flag, UnknownFlag> {
         match number {
             0 => Ok(Flag::Unmapped),
@@ -85,7 +87,7 @@ impl TryFrom<u8> for Flag {
 }
 
 // The flag of a number; one that is no flag's counts as 0.
-#[tactic(auto, unfolding(crate::specs::Numbers::flag_from))]
+#[tactic(auto, unfolding(crate::specs::Numbers::flag_tried, crate::specs::Numbers::flag_from))]
 pub fn flag_from(number: u8) -> Flag
     ensures { result ≡ flag_from number }
 {
