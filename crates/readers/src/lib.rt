@@ -3,7 +3,7 @@
 // equation.
 #![tactic(auto)]
 
-ghost use Rattle.std.specs.Prelude.{◌≡◌, position};
+ghost use Rattle.std.specs.Prelude.{◌≡◌, drop, position};
 ghost use Rattle.readers.specs.Same.{same_reader};
 ghost use Rattle.readers.specs.Listed.{live, blank_reader, blank_past, find_in, count_at, is_in, count_in, no_readers};
 ghost use Rattle.readers.specs.Listed.{pushed, put_at, removed_at};
@@ -94,12 +94,19 @@ pub fn count_in(rs: Readers, bucket: Bucket, phase: u8) -> usize
     n
 }
 
+// The entries past the length. They are cut off at once: `skip` would walk the listed ones first.
+fn past(rs: &Readers) -> &[Reader]
+    ensures { result.now ≡ drop rs.now.len rs.now.items }
+{
+    &rs.items[rs.len.min(CAPACITY)..]
+}
+
 // Whether every entry past the length is blank.
 pub fn blank_past(rs: Readers) -> bool
     ensures { result ≡ blank_past rs }
 {
     let nobody = blank();
-    rs.items.iter().skip(rs.len).all(|r| nobody == *r)
+    past(&rs).iter().all(|r| same(nobody, *r))
 }
 
 // One more at the end; an error, the list as it was, where it is full.
