@@ -1,8 +1,9 @@
 -- What `find_in` answers, both ways: the place of the first reader that is equal (`found`, `split_of_found`; `find_split`), or
 -- that there is none (`nowhere`; `find_none`). And a change at the place that it answers is a change of the first equal reader
--- (`removed_first`, `put_first`). It is what std's `position` answers (`found_by_position`). Assumes nothing.
+-- (`removed_first`, `put_first`). It is what std's `position` answers (`found_by_position`; the other way round `find_is_position`,
+-- which the check finds by a goal's `find_in`). Assumes nothing.
 use Prim.Native.Nat.{ℕ, suc, ◌+◌, ◌<◌}
-use mathlib.Core.Path.{◌≡◌, refl, ap, subst, ◌∙◌}
+use mathlib.Core.Path.{◌≡◌, refl, ap, sym, subst, ◌∙◌}
 use mathlib.Core.Bool.{Bool, true, false, cond, not, ◌&&◌}
 use mathlib.Core.List.{List, [], ◌∷◌, ◌++◌}
 use native.Mathlib.Nat.{add-zero, zero-add}
@@ -46,6 +47,9 @@ module _ (x : Reader) where
 
   pub found_by_position : (l : List Reader) → position (λ r. same_reader r x) l ≡ find_in l x
   found_by_position l = position_from-zero (λ r. same_reader r x) l ∙ found_from 0 l
+
+  pub find_is_position : (l : List Reader) → find_in l x ≡ position (λ r. same_reader r x) l
+  find_is_position l = sym (found_by_position l)
 
   -- ---- from the answer to the list
   first_from : (n : ℕ) (l : List Reader) (i : ℕ) → find_from n l x ≡ Some i → Counted n l x i

@@ -64,7 +64,7 @@ fn place_of(readers: &[Reader], want: Reader) -> Option<usize>
 }
 
 // The place of the first reader equal to `want`.
-#[tactic(auto, using(crate::proofs::First::found_by_position))]
+#[tactic(auto, using(crate::proofs::First::find_is_position))]
 pub fn find(rs: Readers, want: Reader) -> Option<usize>
     ensures { result ≡ find_in (live rs) want }
 {
