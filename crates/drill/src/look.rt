@@ -17,11 +17,11 @@ const LENGTH: usize = 2;
 const COUNTS: usize = 4;
 
 // Whether the page is sound, the lowest broken rule, and the census.
-fn judged(out: &impl Print, page: Page) {
+fn judged(out: &impl Print, page: &Page) {
     let mut line = [0u8; LINE];
-    line[0] = soundness::sound(page);
-    line[1] = soundness::broken_rule(page);
-    let census = census::census(page);
+    line[0] = soundness::sound(*page);
+    line[1] = soundness::broken_rule(*page);
+    let census = census::census(*page);
     for (place, count) in line[CENSUS..].iter_mut().zip(census.iter().flatten()) {
         *place = count.0;
     }
@@ -29,7 +29,7 @@ fn judged(out: &impl Print, page: Page) {
 }
 
 // The flag, whether storage is in, the list's length (sixteen bits of it), the counts, and storage's value.
-fn shown(out: &impl Print, page: Page) {
+fn shown(out: &impl Print, page: &Page) {
     let carried = page.storage.map_or(Answer::Accepted, Answer::Withdrew);
     let mut line = [0u8; LINE];
     wire::write_answer(carried, &mut line);
@@ -65,7 +65,7 @@ fn list(out: &impl Print, readers: Readers) {
 
 // The page, for who looks at it.
 pub(crate) fn look(out: &impl Print, page: Page) {
-    judged(out, page);
-    shown(out, page);
+    judged(out, &page);
+    shown(out, &page);
     list(out, page.readers);
 }

@@ -101,12 +101,12 @@ fn past(rs: &Readers) -> &[Reader]
     &rs.items[rs.len.min(CAPACITY)..]
 }
 
-// Whether every entry past the length is blank.
-pub fn blank_past(rs: Readers) -> bool
-    ensures { result ≡ blank_past rs }
+// Whether every entry past the length is blank. The list is lent, as to `count_at`.
+pub fn blank_past(rs: &Readers) -> bool
+    ensures { result ≡ blank_past rs.now }
 {
     let nobody = blank();
-    past(&rs).iter().all(|r| same(nobody, *r))
+    past(rs).iter().all(|r| same(nobody, *r))
 }
 
 // One more at the end; an error, the list as it was, where it is full.

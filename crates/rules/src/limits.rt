@@ -32,6 +32,6 @@ fn buckets_within(readers: &[Reader]) -> bool
 pub fn limits_kept(h: Head, readers: Readers) -> bool
     ensures { result ≡ limits_kept h readers }
 {
-    let listed = (readers.len <= CAPACITY) & buckets_within(live(&readers)) & blank_past(readers);
+    let listed = (readers.len <= CAPACITY) & buckets_within(live(&readers)) & blank_past(&readers);
     counts_under(h.ref_counts, CEILING) & holders_within(h.exc_state, h.loading_state) & listed
 }
