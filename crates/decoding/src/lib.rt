@@ -16,7 +16,7 @@ use kinds::{
     loading_from, phase_from, storage_from, writeback_from,
 };
 use page_record::{Head, Page, page_of};
-use readers::Readers;
+use readers::{Readers, blank};
 use std::array;
 use wire::{VALUE, byte_at, u64_at};
 
@@ -64,10 +64,14 @@ fn reader_from(entry: &[u8]) -> Reader
 }
 
 // That of the entry at a place; where the bytes end before it, nobody.
+#[tactic(auto, using(crate::proofs::Decoded::missing))]
 fn reader_at(image: &[u8], at: usize) -> Reader
     ensures { result ≡ reader_from (drop at image.now) }
 {
-    reader_from(image.get(at..).unwrap_or(&[]))
+    let Some(entry) = image.get(at..) else {
+        return blank();
+    };
+    reader_from(entry)
 }
 
 // The list, of this length: every entry as it stands, those past the length too.
