@@ -94,8 +94,12 @@ row Flag.ExcLockDirty =
     ∷ []
 
 -- ---- entries
+-- a flag has those of its row
+abbrev pub entries : Flag → List ℕ
+entries f = row f
+
 unfoldable pub entry_at : Flag → ℕ → ℕ
-entry_at f c = get_or (row f) c never
+entry_at f c = get_or (entries f) c never
 
 -- by a step's number and its clean
 abbrev pub entry_of : Flag → ℕ → ℕ → ℕ
