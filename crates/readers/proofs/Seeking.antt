@@ -1,4 +1,5 @@
--- The turn of `find`. A search of the whole list answers as one from i over what is left (`Seeking`). A turn is one clause of
+-- One turn of a search that goes from place to place, as `find` did before it went by std's `position`; no proof cites it today. A
+-- search of the whole list answers as one from i over what is left (`Seeking`). A turn is one clause of
 -- `find_from` (`clause`), and goes one of three ways: the reader there is equal (`hit`), or it is another by its phase or by its
 -- bucket and is passed over (`other_phase`, `other_bucket`). Where nothing is left, no reader is equal (`past_length`,
 -- `past_array`). Assumes nothing.
