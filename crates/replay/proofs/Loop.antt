@@ -65,10 +65,10 @@ module _ {qs old₀ : List ℕ} {page₀ : Page} {old : List ℕ} {page : Page} 
     pub inside : to i ≤ length old
     inside = omega (arith, ap length here, length-append x rest, g.ahead, g.room)
 
-    pub going : {o : Outcome} {ys : List ℕ} {j : ℕ} → o ≡ turn_of page x
+    going_at : {o : Outcome} {ys : List ℕ} {j : ℕ} → o ≡ turn_of page x
         → ys ≡ put_to (line_of o.answer) (mid_of (at i) (to i - at i) old) → j ≡ k + 1
         → Going qs old₀ page₀ (put_mid (at i) (to i - at i) old ys) o.page rest j
-    going {o = o} {ys = ys} {j = j} turned written next =
+    going_at {o = o} {ys = ys} {j = j} turned written next =
         let new : List ℕ = put_mid (at i) (to i - at i) old ys in
         let stops : to i ≡ at i + line_size = omega arith in
         let first : requests_of left ≡ x ∷ requests_of rest = request_first left x rest here wide in
@@ -103,6 +103,15 @@ module _ {qs old₀ : List ℕ} {page₀ : Page} {old : List ℕ} {page : Page} 
               ∙ ap (λ (z : List ℕ). take (to i) new ++ after ++ z) (sym past)
               ∙ ap (λ (n : ℕ). take n new ++ after ++ drop (length qs) new) end;
         }
+
+    -- the same, however the two places are written
+    pub going : {o : Outcome} {ys : List ℕ} {a b j : ℕ} → a ≡ at i → b ≡ to i → o ≡ turn_of page x
+        → ys ≡ put_to (line_of o.answer) (mid_of a (b - a) old) → j ≡ k + 1
+        → Going qs old₀ page₀ (put_mid a (b - a) old ys) o.page rest j
+    going {o = o} {ys = ys} begin end turned written next =
+        let here : ys ≡ put_to (line_of o.answer) (mid_of (at i) (to i - at i) old) =
+        written ∙ (λ t. put_to (line_of o.answer) (mid_of (begin t) (end t - begin t) old)) in
+        rw (begin, end) (going_at turned here next)
 
   -- at the end the page is the last one, and the buffer holds all the answers
   module _ (few : length left < line_size) where

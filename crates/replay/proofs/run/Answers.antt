@@ -16,13 +16,14 @@ pub slice_bounds-write_answer-end : goal.slice_bounds-write_answer-end
 slice_bounds-write_answer-end c =
     let now = c.loop-i.invariant in
     let s = c.in-Some.ensures.steps in
-    inside now.1 _ _ _ s.0.1.0 (s.0.1.1 ∙ now.0) s.1
+    omega (arith, inside now.1 _ _ _ s.0.1.0 (s.0.1.1 ∙ now.0) s.1)
 
 pub loop-i-preserved : goal.loop-i-preserved
 loop-i-preserved c =
     let now = c.loop-i.invariant in
     let s = c.in-Some.ensures.steps in
-    (s.0.0 ∙ now.0, going now.1 _ _ _ s.0.1.0 (s.0.1.1 ∙ now.0) s.1 c.turn-turned.ensures c.write_answer.ensures.bytes s.2)
+    let turned = going now.1 _ _ _ s.0.1.0 (s.0.1.1 ∙ now.0) s.1 (omega arith) (omega arith) in
+    (s.0.0 ∙ now.0, turned c.turn-turned.ensures c.write_answer.ensures.bytes s.2)
 
 pub returns-clause-end : goal.returns-clause-end
 unfolding ran_of
