@@ -2,7 +2,7 @@
 -- left: the page at the end is the same, and the buffer is to hold the answers so far, the lines still to come, and what stands past
 -- them. A turn takes the first request of those that are left. In order: the first request, the invariant and its turn. Assumes nothing.
 use Prim.Native.Nat.{ℕ, suc, ◌+◌, ◌*◌, ◌-◌, ◌/◌, ◌%◌, ◌<◌, ◌≤◌}
-use mathlib.Core.Path.{◌≡◌, ap, ◌∙◌, sym}
+use mathlib.Core.Path.{◌≡◌, refl, ap, ◌∙◌, sym}
 use mathlib.Core.List.{List, [], ◌∷◌, ◌++◌, append-nil}
 use native.Mathlib.Omega.{arith}
 use borrow.Rule.Slice.PartMut.{mid_of, put_mid}
@@ -42,6 +42,7 @@ pub record Going (qs old₀ : List ℕ) (page₀ : Page) (old : List ℕ) (page 
   pub ahead : at k + length left ≡ length qs
   pub whole : length left % line_size ≡ 0
   pub room : length qs ≤ length old
+  pub long : length old ≡ length old₀
   pub ends : page_after page₀ (requests_of qs) ≡ page_after page (requests_of left)
   pub says : lines_of page₀ (requests_of qs) ++ drop (length qs) old₀
       ≡ take (at k) old ++ lines_of page (requests_of left) ++ drop (length qs) old
@@ -54,6 +55,7 @@ begins qs old page left k all none whole room =
       ahead = omega (arith, ap length all);
       whole = ap (λ (l : List ℕ). length l % line_size) all ∙ whole;
       room = room;
+      long = refl;
       ends = ap (λ (l : List ℕ). page_after page (requests_of l)) (sym all);
       says = λ i. take (at (sym none i)) old ++ lines_of page (requests_of (sym all i)) ++ drop (length qs) old;
     }
@@ -91,6 +93,7 @@ module _ {qs old₀ : List ℕ} {page₀ : Page} {old : List ℕ} {page : Page} 
           ahead = omega (arith, g.ahead);
           whole = omega (arith, g.whole);
           room = omega (arith, g.room);
+          long = kept ∙ g.long;
           ends =
               g.ends
               ∙ ap (page_after page) first
