@@ -1,5 +1,5 @@
 // The input: the operations, each a head and a payload, within what may be read in all.
-ghost use Rattle.std.specs.Prelude.{◌≡◌, ◌+◌, ◌≤◌, length, take, IfOk, IfSome, IfNone, IfErr};
+ghost use Rattle.std.specs.Prelude.{◌≡◌, ◌+◌, ◌≤◌, length, take, Ok, None, IfOk, IfSome, IfNone, IfErr};
 ghost use Rattle.std.specs.Io.KnownBytes.{Consumes};
 ghost use Rattle.std.specs.Io.Take.{take_limit, take_remaining};
 ghost use Rattle.kinds.specs.Limits.{line_size};
@@ -89,6 +89,7 @@ fn read_order<'a, R: Read>(
     space: &'a mut [u8],
 ) -> Result<Option<Order<'a>>, Broken>
     ensures within { IfOk result (λ found. IfSome found (λ order. length order.payload.now ≤ length space.old)) }
+    ensures over { take_limit input.old ≡ 0 → result ≡ Ok None }
     ensures falls { IfOk result (λ found. IfSome found (λ order. take_limit input.new + line_size + length order.payload.now ≡ take_limit input.old)) }
 {
     let mut head = [0u8; LINE];
@@ -113,12 +114,14 @@ fn read_order<'a, R: Read>(
     }))
 }
 
-// The next operation; a head at least and its payload are taken off what may be read. Where there is none no more may be read.
+// The next operation: its head and its payload are taken off what may be read. Where none is found, or it is broken, no more may be
+// read, and from then on none is found.
 pub(crate) fn next<'a, R: Read>(
     input: &mut Take<R>,
     space: &'a mut [u8],
 ) -> Result<Option<Order<'a>>, Broken>
     ensures within { IfOk result (λ found. IfSome found (λ order. length order.payload.now ≤ length space.old)) }
+    ensures over { take_limit input.old ≡ 0 → result ≡ Ok None }
     ensures falls { IfOk result (λ found. IfSome found (λ order. take_limit input.new + line_size + length order.payload.now ≡ take_limit input.old)) }
     ensures ends { IfOk result (λ found. IfNone found (take_limit input.new ≡ 0)) }
     ensures breaks { IfErr result (λ _. take_limit input.new ≡ 0) }
