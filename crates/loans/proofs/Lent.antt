@@ -3,9 +3,9 @@
 --     pub fn apply(page: &mut Page, request: Request) -> Answer {
 --         let was = *page; let out = step(was, request); *page = out.page; out.answer
 --     }
--- The walk of that function's MIR, over any record, request and answer; a crate cites it at its own types.
+-- The walk of that function's MIR, over any record, request and answer; a crate may cite it at its own types.
 --     out_ty       the MIR type of what the callee returns
---     apply_fn     the function's MIR. `refl` shows that it is the crate's `code.function`
+--     apply_fn     the function's MIR, as `lock` had it when it stood on this walk: `refl` showed that it was its `code.function`
 --     Said         what is known of what the callee returned
 --     walk         from the opened-up entry to the function's `WpFn`
 -- Assumes `Logic`.

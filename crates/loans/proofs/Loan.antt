@@ -2,9 +2,9 @@
 --     pub fn lend(own: Page, request: Request) -> Outcome {
 --         let mut p = own; let a = apply(&mut p, request); Outcome { answer: a, page: p }
 --     }
--- The walk of that function's MIR, over any record, request and answer; a crate cites it at its own types. Whoever calls
+-- The walk of that function's MIR, over any record, request and answer; a crate may cite it at its own types. Whoever calls
 -- `lend` passes and gets plain values, and needs no walk.
---     lend_fn      the function's MIR. `refl` shows that it is the crate's `code.function`
+--     lend_fn      the function's MIR, as `lock` had it when it stood on this walk: `refl` showed that it was its `code.function`
 --     Known, Back  what is known of what the callee returned, and what it gives back
 --     walk         the local is lent for a lifetime that is made for the call; the lifetime is ended, and the local comes back
 --                  at the value that the callee's contract says was its last
